@@ -1,0 +1,5 @@
+pub mod DueLaws
+mod Flags
+mod Lines
+mod OrderLaws
+mod Queues
