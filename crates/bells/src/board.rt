@@ -52,10 +52,11 @@ pub impl Bell for Board as BoardBell {
     }
 
     fn collect(&mut self, task: usize) -> bool {
-        let was = self.due(task);
-        if was {
-            self.flags[task] = false;
+        if !Self::knows(task) {
+            return false;
         }
+        let was = self.flags[task];
+        self.flags[task] = false;
         was
     }
 }

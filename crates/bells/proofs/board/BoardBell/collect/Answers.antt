@@ -1,13 +1,10 @@
 use borrow.Author.Needs.{needs}
 use Rattle.bells.proofs.DueLaws.{collected-none}
-use Rattle.bells.proofs.Flags.{flagged-known, flagged-collected}
+use Rattle.bells.proofs.Flags.{is-due-flagged, flagged-past, flagged-collected}
 use Rattle.bells.proofs.board.BoardBell.collect.Needs as need
 
-pub index-self-task : need.index-self-task
-index-self-task c = search (needs, flagged-known)
+pub returns-then-not-knows : need.returns-then-not-knows
+returns-then-not-knows c = search (needs, flagged-past, collected-none)
 
-pub returns-then-was : need.returns-then-was
-returns-then-was c = search (needs, flagged-known, flagged-collected)
-
-pub returns-else-was : need.returns-else-was
-returns-else-was c = search (needs, collected-none)
+pub returns : need.returns
+returns c = search (needs, is-due-flagged, flagged-collected)

@@ -1,0 +1,3 @@
+pub mod Refused
+pub mod Ways
+pub mod Meetings
