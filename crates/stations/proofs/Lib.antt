@@ -1,0 +1,3 @@
+mod Layouts
+mod Limits
+pub mod Told
