@@ -1,4 +1,6 @@
 // An arena over provided slots, and the batch and set of wakers that are built on it.
+#![tactic(auto)]
+
 mod arena;
 mod batch;
 mod set;

@@ -1,5 +1,7 @@
 // Replays a recorded run of an arena. Each line of standard input is a call with its recorded answer; it is printed with this
 // arena's answer in the recorded one's place, so a run that agrees is printed unchanged.
+#![tactic(auto)]
+
 mod answer;
 mod call;
 

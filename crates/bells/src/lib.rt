@@ -1,4 +1,6 @@
 // Bells, wakers and refusals: what the tables and calls of a station rest on.
+#![tactic(auto)]
+
 mod bell;
 mod board;
 mod line;

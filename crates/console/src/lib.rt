@@ -1,4 +1,6 @@
 // A script on standard input, its answers on standard output.
+#![tactic(auto)]
+
 ghost use Rattle.std.specs.Prelude.{◌≤◌, length, IfOk};
 
 use bells::Bell;

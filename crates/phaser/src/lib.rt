@@ -1,4 +1,6 @@
 // The phaser and the barrier: functions on the parts that they are handed, which may belong to different stations.
+#![tactic(auto)]
+
 mod barrier;
 mod counts;
 mod follower;

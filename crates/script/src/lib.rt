@@ -1,4 +1,6 @@
 // Scripts: a call on each line, read field by field; and the answer to each, written as a line.
+#![tactic(auto)]
+
 mod bytes;
 mod exports;
 mod fault;

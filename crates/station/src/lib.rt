@@ -1,4 +1,6 @@
 // A station: one phaser, one barrier and one bell.
+#![tactic(auto)]
+
 mod answer;
 mod barrier;
 mod call;

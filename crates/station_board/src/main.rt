@@ -1,4 +1,6 @@
 // Runs a script on a station whose bell is a board.
+#![tactic(auto)]
+
 use bells::Board;
 use std::io;
 

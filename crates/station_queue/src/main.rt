@@ -1,4 +1,6 @@
 // Runs a script on a station whose bell is a queue.
+#![tactic(auto)]
+
 use bells::Queue;
 use std::io;
 

@@ -1,4 +1,6 @@
 // Stations: a phaser, a barrier, their tables and a bell as one value, which performs calls.
+#![tactic(auto)]
+
 mod answer;
 mod call;
 mod opening;

@@ -13,8 +13,8 @@ cut g c =
     let some : 0 < length c.args.text.now = search rules in
     parted c.args.text.now c.cut.result.0.now c.cut.result.1.now c.requires.whole some c.cut.ensures.front c.cut.ensures.back
 
-pub returns-then-is-empty : goal.returns-then-is-empty
-returns-then-is-empty g c = nothing_called g.B.Bell.known c.args.text.now c.args.writer.now (search rules)
+pub returns-then-is_empty : goal.returns-then-is_empty
+returns-then-is_empty g c = nothing_called g.B.Bell.known c.args.text.now c.args.writer.now (search rules)
 
 pub answer-requires : goal.answer-requires
 answer-requires g c =

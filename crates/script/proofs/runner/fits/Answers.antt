@@ -4,8 +4,8 @@ use Rattle.script.proofs.Lines.{count_le}
 use Rattle.script.proofs.Runs.{fits_from}
 use Rattle.script.proofs.runner.fits.Goals as goal
 
-pub overflow-mul-result : goal.overflow-mul-result
-overflow-mul-result c = let h = count_le 10 c.args.script.now in search rules
+pub overflow_mul-result : goal.overflow_mul-result
+overflow_mul-result c = let h = count_le 10 c.args.script.now in search rules
 
 pub returns : goal.returns
 returns c =

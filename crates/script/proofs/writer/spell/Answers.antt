@@ -5,8 +5,8 @@ use Rattle.script.proofs.writer.spell.Goals as goal
 pub loop-left-init : goal.loop-left-init
 loop-left-init c = spelling_none c.args.n c.args.buffer.now (search rules) (search rules)
 
-pub overflow-sub-at : goal.overflow-sub-at
-overflow-sub-at c =
+pub overflow_sub-at : goal.overflow_sub-at
+overflow_sub-at c =
     let small : c.args.n < 2 ^ 64 = search rules in
     room c.args.n c.loop-left.left c.loop-left.at c.loop-left.buffer c.loop-left.invariant small
 
@@ -15,8 +15,8 @@ loop-left-preserved c =
     let small : c.args.n < 2 ^ 64 = search rules in
     spelling_more c.args.n c.loop-left.left c.loop-left.at c.loop-left.buffer c.loop-left.invariant small c.loop-left-test.true
 
-pub overflow-sub-at-2 : goal.overflow-sub-at-2
-overflow-sub-at-2 c =
+pub overflow_sub-at-2 : goal.overflow_sub-at-2
+overflow_sub-at-2 c =
     let small : c.args.n < 2 ^ 64 = search rules in
     room c.args.n c.loop-left.left c.loop-left.at c.loop-left.buffer c.loop-left.invariant small
 

@@ -3,9 +3,9 @@ use Rattle.arena.specs.Arenas.{shown, table_of}
 use Rattle.arena.proofs.Places.{cells_none, occupied_none, length-cells}
 use Rattle.arena.proofs.arena.Arena.clear.Goals as goal
 
-pub invariant-of-self : goal.invariant-of-self
+pub invariant_of-self : goal.invariant_of-self
 unfolding table_of
-invariant-of-self g c = ((omega arith, omega arith), (c.args.self.now.sized, (refl, (occupied_none (shown c.args.self.now), tt))))
+invariant_of-self g c = ((omega arith, omega arith), (c.args.self.now.sized, (refl, (occupied_none (shown c.args.self.now), tt))))
 
 pub returns : goal.returns
 unfolding table_of

@@ -6,7 +6,7 @@ use Rattle.arena.proofs.Values.{values_some, values_none, values_past}
 use Rattle.arena.proofs.Pours.{pour, poured_room, poured_count, poured_all}
 use Rattle.arena.proofs.arena.Arena.copy_out.Given as given
 use Rattle.arena.proofs.arena.Arena.copy_out.Goals as goal
-use Rattle.arena.proofs.arena.Arena.copy_out.Goals.{in-Some, in-default}
+use Rattle.arena.proofs.arena.Arena.copy_out.Goals.{in-Some, in_default}
 
 -- while a value is left, a slot is
 room : (g : given.Over) (c : goal.In-Some g) → c.loop-place.count < length c.args.into.now
@@ -16,14 +16,14 @@ room g c =
     let k = poured_room (table_of a).cells c.loop-place.place c.loop-place.count c.loop-place.into c.args.into.now c.in-Some.value h c.in-Some.ensures c.loop-place.invariant in
     omega (arith, k, len_counts a)
 
-pub offset-bounds-into-count : goal.offset-bounds-into-count
-offset-bounds-into-count g c = let h = room g c in search rules
+pub offset_bounds-into-count : goal.offset_bounds-into-count
+offset_bounds-into-count g c = let h = room g c in search rules
 
 pub bounds-into-count : goal.bounds-into-count
 bounds-into-count g c = omega (arith, room g c)
 
-pub overflow-add-count : goal.overflow-add-count
-overflow-add-count g c = let h = room g c in search rules
+pub overflow_add-count : goal.overflow_add-count
+overflow_add-count g c = let h = room g c in search rules
 
 pub loop-place-preserved : goal.loop-place-preserved
 loop-place-preserved g c =
@@ -35,7 +35,7 @@ loop-place-preserved g c =
     let r = fold pour (0, c.args.into.now) (values cs) in
     elim c.match-get.branch [
       | in-Some w ↦ values_some pour s s' r cs i c.get.result h c.get.ensures c.loop-place.invariant w.in-Some.value w.in-Some.is (let e = w.count-is in let f = w.into-is in cc)
-      | in-default w ↦ values_none pour s s' r cs i c.get.result h c.get.ensures c.loop-place.invariant w.in-default.is (let e = w.count-is in let f = w.into-is in cc)
+      | in_default w ↦ values_none pour s s' r cs i c.get.result h c.get.ensures c.loop-place.invariant w.in_default.is (let e = w.count-is in let f = w.into-is in cc)
     ]
 
 pub returns : goal.returns

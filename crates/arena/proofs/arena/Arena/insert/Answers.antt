@@ -9,9 +9,9 @@ pub link-next-requires : goal.link-next-requires
 unfolding table_of
 link-next-requires g c = let h = reuse_below c.args.self.now c.in-Some.place c.in-Some.is in search rules
 
-pub offset-bounds-self-place : goal.offset-bounds-self-place
+pub offset_bounds-self-place : goal.offset_bounds-self-place
 unfolding table_of
-offset-bounds-self-place g c = let h = reuse_below c.args.self.now c.in-Some.place c.in-Some.is in search rules
+offset_bounds-self-place g c = let h = reuse_below c.args.self.now c.in-Some.place c.in-Some.is in search rules
 
 pub bounds-self-place : goal.bounds-self-place
 unfolding table_of
@@ -24,9 +24,9 @@ listed g c =
     let h = reuse_below a c.in-Some.place c.in-Some.is in
     omega (arith, a.sized.0, a.sized.1)
 
-pub invariant-of-self : goal.invariant-of-self
+pub invariant_of-self : goal.invariant_of-self
 unfolding table_of
-invariant-of-self g c =
+invariant_of-self g c =
     let a = c.args.self.now in
     whole a c.in-Some.place (Occupied c.args.value) c.link-next.result a.used (a.len + 1) (reuse_below a c.in-Some.place c.in-Some.is) (reuse_kept (shown a) a.head a.used a.len (kept a) c.in-Some.place c.args.value c.link-next.result c.in-Some.is c.link-next.ensures)
 
@@ -41,9 +41,9 @@ returns-then-place-self g c =
       law = (refl, full_all (shown a) a.head a.used a.len (kept a) c.in-None.is h);
     }
 
-pub invariant-of-self-in-None : goal.invariant-of-self-in-None
+pub invariant_of-self-in-None : goal.invariant_of-self-in-None
 unfolding table_of
-invariant-of-self-in-None g c =
+invariant_of-self-in-None g c =
     let a = c.args.self.now in
     let l = length-shown a in
     let h : a.used < length (shown a) = omega arith in

@@ -5,9 +5,9 @@ use Rattle.arena.specs.Arenas.{table_of}
 use Rattle.arena.proofs.Places.{cells_none, occupied_none}
 use Rattle.arena.proofs.arena.Arena.new.Goals as goal
 
-pub invariant-of-result : goal.invariant-of-result
+pub invariant_of-result : goal.invariant_of-result
 unfolding table_of
-invariant-of-result g c =
+invariant_of-result g c =
     let n : length c.args.slots ≡ g.row.N = search rules in
     ((omega arith, omega arith), ((c.if-capacity.false, n), (refl, (occupied_none (take c.args.capacity c.args.slots), tt))))
 

@@ -5,9 +5,9 @@ use Rattle.arena.proofs.Steps.{kept, whole, shown-set, held_below, held_some, re
 use Rattle.arena.proofs.Sounds.{table_sound, freed_after}
 use Rattle.arena.proofs.arena.Arena.remove.Goals as goal
 
-pub offset-bounds-self-place : goal.offset-bounds-self-place
+pub offset_bounds-self-place : goal.offset_bounds-self-place
 unfolding table_of
-offset-bounds-self-place g c =
+offset_bounds-self-place g c =
     let a = c.args.self.now in
     let h = held_below a c.args.place c.in-Some.old (sym c.in-Some.ensures) in
     search rules
@@ -26,9 +26,9 @@ listed g c =
     let h = held_below a c.args.place c.in-Some.old (sym c.in-Some.ensures) in
     omega (arith, a.sized.0, a.sized.1)
 
-pub invariant-of-self : goal.invariant-of-self
+pub invariant_of-self : goal.invariant_of-self
 unfolding table_of
-invariant-of-self g c =
+invariant_of-self g c =
     let a = c.args.self.now in
     let e = sym c.in-Some.ensures in
     whole a c.args.place (Vacant a.head) (Some c.args.place) a.used (a.len - 1) (held_below a c.args.place c.in-Some.old e) (remove-kept (shown a) a.head a.used a.len (kept a) c.args.place c.in-Some.old e)
@@ -45,8 +45,8 @@ returns-in-Some g c =
 pub returns-in-None : goal.returns-in-None
 returns-in-None g c = let e = sym c.in-None.ensures in record { step = rw e; law = (refl, e) }
 
-pub overflow-sub-self : goal.overflow-sub-self
+pub overflow_sub-self : goal.overflow_sub-self
 unfolding table_of
-overflow-sub-self g c =
+overflow_sub-self g c =
     let a = c.args.self.now in
     held_some (shown a) a.head a.used a.len (kept a) c.args.place c.in-Some.old (sym c.in-Some.ensures)

@@ -18,6 +18,6 @@ returns g c =
     let t : ltb (length c.args.into.now) (occupied (table_of a).cells) ≡ false = le-ltb _ _ (omega (arith, len_counts a)) in
     let k = length (table_of a).cells in
     record {
-      step = rw (t, c.copy-out-count.ensures.count, c.copy-out-count.ensures.front, c.clear.ensures);
-      law = rw c.clear.ensures (c.copy-out-count.ensures.count, fresh-occupied g.row.T.Denot k, fresh_vacant g.row.T.Denot k);
+      step = rw (t, c.copy_out-count.ensures.count, c.copy_out-count.ensures.front, c.clear.ensures);
+      law = rw c.clear.ensures (c.copy_out-count.ensures.count, fresh-occupied g.row.T.Denot k, fresh_vacant g.row.T.Denot k);
     }

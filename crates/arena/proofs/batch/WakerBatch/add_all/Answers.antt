@@ -6,7 +6,7 @@ use Rattle.arena.specs.Ringing.{rung_all, each_rung}
 use Rattle.arena.specs.Arenas.{table_of, shown}
 use Rattle.arena.proofs.Values.{values_some, values_none, values_past}
 use Rattle.arena.proofs.batch.WakerBatch.add_all.Goals as goal
-use Rattle.arena.proofs.batch.WakerBatch.add_all.Goals.{in-Some, in-default}
+use Rattle.arena.proofs.batch.WakerBatch.add_all.Goals.{in-Some, in_default}
 
 both : {A B C : Type 0} (f : A → B → C) {a a' : A} {b b' : B} → a ≡ a' → b ≡ b' → f a b ≡ f a' b'
 both f p q = cc
@@ -24,7 +24,7 @@ loop-slot-preserved g c =
     let r = each_rung names known (rung_all names known (due c.args.bell.now) (batch_of c.args.self.now)) (values cs) in
     elim c.match-get.branch [
       | in-Some w ↦ values_some (λ d e. rung known (names e.waker) d) s s' r cs i c.get.result h c.get.ensures c.loop-slot.invariant w.in-Some.entry w.in-Some.is (both (λ b l. rung_all names known (due b) (batch_of l)) w.bell-is w.self-is ∙ w.add.ensures)
-      | in-default w ↦ values_none (λ d e. rung known (names e.waker) d) s s' r cs i c.get.result h c.get.ensures c.loop-slot.invariant w.in-default.is (both (λ b l. rung_all names known (due b) (batch_of l)) w.bell-is w.self-is)
+      | in_default w ↦ values_none (λ d e. rung known (names e.waker) d) s s' r cs i c.get.result h c.get.ensures c.loop-slot.invariant w.in_default.is (both (λ b l. rung_all names known (due b) (batch_of l)) w.bell-is w.self-is)
     ]
 
 pub returns : goal.returns

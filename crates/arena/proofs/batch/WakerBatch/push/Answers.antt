@@ -5,8 +5,8 @@ use Rattle.arena.specs.Table.{values}
 use Rattle.arena.proofs.Values.{pushed_more}
 use Rattle.arena.proofs.batch.WakerBatch.push.Goals as goal
 
-pub invariant-of-self : goal.invariant-of-self
-invariant-of-self g c =
+pub invariant_of-self : goal.invariant_of-self
+invariant_of-self g c =
     let b = c.args.self.now in
     let h : b.len < length b.wakers = omega arith in
     ((omega arith, rw length-set b.within.1), (rw (pushed_more b.wakers b.len c.args.waker h, length_push, b.filled), tt))

@@ -5,7 +5,7 @@ use Rattle.arena.specs.Table.{values}
 use Rattle.arena.specs.Ringing.{rung_all}
 use Rattle.arena.proofs.Values.{values_some, values_none}
 use Rattle.arena.proofs.batch.WakerBatch.wake_all.Goals as goal
-use Rattle.arena.proofs.batch.WakerBatch.wake_all.Goals.{in-Some, in-default}
+use Rattle.arena.proofs.batch.WakerBatch.wake_all.Goals.{in-Some, in_default}
 
 pub loop-i-preserved : goal.loop-i-preserved
 loop-i-preserved g c =
@@ -19,7 +19,7 @@ loop-i-preserved g c =
     let r = rung_all names known (due c.args.bell.now) (values ws) in
     elim c.match-at.branch [
       | in-Some w ↦ values_some (λ d x. rung known (names x) d) (due c.loop-i.bell) (due c.match-at.bell) r ws c.loop-i.i c.at.result h c.at.ensures c.loop-i.invariant w.in-Some.waker w.in-Some.is (ap due w.bell-is ∙ (w.ring.ensures.after ∙ ap (λ t. rung known t (due c.loop-i.bell)) w.target.ensures))
-      | in-default w ↦ values_none (λ d x. rung known (names x) d) (due c.loop-i.bell) (due c.match-at.bell) r ws c.loop-i.i c.at.result h c.at.ensures c.loop-i.invariant w.in-default.is (ap due w.bell-is)
+      | in_default w ↦ values_none (λ d x. rung known (names x) d) (due c.loop-i.bell) (due c.match-at.bell) r ws c.loop-i.i c.at.result h c.at.ensures c.loop-i.invariant w.in_default.is (ap due w.bell-is)
     ]
 
 pub returns : goal.returns

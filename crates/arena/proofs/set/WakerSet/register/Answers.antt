@@ -8,6 +8,6 @@ returns g c =
     let a = c.args in
     let t = entries_of a.self.now in
     record {
-      step = c.seat-or-renew.ensures;
-      law = parked_after g.W.Waker.names g.W.Waker.wakes g.W.Waker.same a.owner a.waker t (table_sound a.self.now.entries) a.remembered c.seat-or-renew.result (entries_of c.seat-or-renew.new.self) c.seat-or-renew.ensures;
+      step = c.seat_or_renew.ensures;
+      law = parked_after g.W.Waker.names g.W.Waker.wakes g.W.Waker.same a.owner a.waker t (table_sound a.self.now.entries) a.remembered c.seat_or_renew.result (entries_of c.seat_or_renew.new.self) c.seat_or_renew.ensures;
     }

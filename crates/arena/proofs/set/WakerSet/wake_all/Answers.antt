@@ -26,6 +26,6 @@ returns g c =
     let due' = g.B.Bell.meaning c.wake_all.new.bell in
     let t = entries_of c.args.self.now in
     let t' = table_of c.clear-2.new.self in
-    let r = c.wake_all.ensures.rung ∙ (c.add-all.ensures ∙ ap (λ ws. each_rung names known (rung_all names known due ws) (values t.cells)) c.clear.ensures) in
+    let r = c.wake_all.ensures.rung ∙ (c.add_all.ensures ∙ ap (λ ws. each_rung names known (rung_all names known due ws) (values t.cells)) c.clear.ensures) in
     let q : ◌≡◌ {A = Due × Table (Entry g.row.W.Denot)} (due', t') (wake_all names known due t) = wake_all_some names known due due' t t' (λ e. c.if-len-eq0.false (c.len.ensures ∙ e)) r c.clear-2.ensures in
     record { step = q; woken = woken-after names known due due' t t' q }

@@ -9,10 +9,10 @@ use Rattle.bells.proofs.queue.QueueBell.collect.Goals as goal
 pub bounds-self-task : goal.bounds-self-task
 bounds-self-task c = search (rules, flagged_known)
 
-pub invariant-of-self : goal.invariant-of-self
-invariant-of-self c =
+pub invariant_of-self : goal.invariant_of-self
+invariant_of-self c =
     let q = c.args.self.now in
-    let taken : listed c.take-out.new.self ≡ without c.args.task (listed q.line) = search rules in
+    let taken : listed c.take_out.new.self ≡ without c.args.task (listed q.line) = search rules in
     let agree = collected_agrees (agree_in q) c.args.task c.if-was.ensures taken in
     search rules
 

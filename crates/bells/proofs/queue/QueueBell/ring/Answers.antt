@@ -12,8 +12,8 @@ returns-then-not-knows c = search (rules, rung_unknown, queued_unknown)
 pub push-requires : goal.push-requires
 push-requires c = room (agree_in c.args.self.now) c.args.task c.if-not-knows.ensures c.if-not-self-task.true
 
-pub invariant-of-self : goal.invariant-of-self
-invariant-of-self c =
+pub invariant_of-self : goal.invariant_of-self
+invariant_of-self c =
     let q = c.args.self.now in
     let pushed : listed c.push.new.self ≡ listed q.line ++ c.args.task ∷ [] = search rules in
     let agree = rung_agrees (agree_in q) c.args.task c.if-not-knows.ensures c.if-not-self-task.true pushed in

@@ -4,8 +4,8 @@ use Rattle.phaser.specs.Model.{barrier_of}
 use Rattle.phaser.proofs.Meetings.{still_to_come, follow_refused}
 use Rattle.phaser.proofs.barrier.Barrier.follow.Goals as goal
 
-pub invariant-of-self : goal.invariant-of-self
-invariant-of-self g c =
+pub invariant_of-self : goal.invariant_of-self
+invariant_of-self g c =
     let b = c.args.self.now in
     (still_to_come b.n b.arrived b.some_to_come c.requires, tt)
 

@@ -1,7 +1,7 @@
 use Rattle.std.proofs.Common.{◌+◌, ◌^◌, ◌<◌, arith, rules}
 use Rattle.phaser.proofs.barrier.Barrier.leads.Goals as goal
 
-pub overflow-add-result : goal.overflow-add-result
-overflow-add-result g c =
-    let fits : c.args.self.now.arrived + 1 < 2 ^ 32 = omega (arith, c.args.self.now.some_to_come, c.max-size.ensures, c.max-size.type-inv) in
+pub overflow_add-result : goal.overflow_add-result
+overflow_add-result g c =
+    let fits : c.args.self.now.arrived + 1 < 2 ^ 32 = omega (arith, c.args.self.now.some_to_come, c.max-size.ensures, c.max-size.type_inv) in
     search rules

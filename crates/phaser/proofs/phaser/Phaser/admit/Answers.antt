@@ -4,12 +4,12 @@ use Rattle.phaser.specs.Model.{phaser_of}
 use Rattle.phaser.proofs.Ways.{admit_many, admit_admits, admit_full, admit_awaited}
 use Rattle.phaser.proofs.phaser.Phaser.admit.Goals as goal
 
-pub returns-in-default : goal.returns-in-default
-returns-in-default g c =
-    admit_many c.args.parties c.args.value (phaser_of c.args.self.now) (table_of c.args.table.now) c.if-c.false c.in-default.ensures
+pub returns-in_default : goal.returns-in_default
+returns-in_default g c =
+    admit_many c.args.parties c.args.value (phaser_of c.args.self.now) (table_of c.args.table.now) c.if-c.false c.in_default.ensures
 
-pub invariant-of-self : goal.invariant-of-self
-invariant-of-self g c =
+pub invariant_of-self : goal.invariant_of-self
+invariant_of-self g c =
     let n = c.args.self.now.counts in
     (omega (arith, n.within, c.in-Some.ensures.1), (λ _ some. admit_awaited n.closed n.registered n.unarrived c.args.parties c.in-Some.registered c.if-c.false n.awaited c.in-Some.ensures.1 some, tt))
 

@@ -4,8 +4,8 @@ use Rattle.phaser.specs.Rules.{counted}
 use Rattle.phaser.proofs.Ways.{awaited_from, settle_stays}
 use Rattle.phaser.proofs.phaser.Phaser.settle.Goals as goal
 
-pub invariant-of-self : goal.invariant-of-self
-invariant-of-self g c =
+pub invariant_of-self : goal.invariant_of-self
+invariant_of-self g c =
     (c.requires, (awaited_from c.args.self.now.counts.closed c.args.registered c.args.unarrived c.then-c.either, tt))
 
 pub returns-then-c : goal.returns-then-c

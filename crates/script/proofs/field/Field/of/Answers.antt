@@ -23,5 +23,5 @@ returns-in-None c =
     let high : get_or c.args.text.now 0 0 ≤ 57 = search rules in
     digit_field c.args.text.now c.from.result None low high c.from.ensures c.in-None.ensures
 
-pub returns-in-default : goal.returns-in-default
-returns-in-default c = search (rules, empty_field, low_field, high_field)
+pub returns-in_default : goal.returns-in_default
+returns-in_default c = search (rules, empty_field, low_field, high_field)

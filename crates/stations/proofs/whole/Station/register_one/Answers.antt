@@ -11,5 +11,5 @@ returns g c =
     let s = station_of g.B.Bell.meaning c.args.self.now in
     told answer.Place (λ x. with_members s (beside s.due x)) c.placed.ensures c.register_one.ensures
 
-pub register-one-requires : goal.register-one-requires
-register-one-requires g c = (phaser_fits g.row.B g.row.W (search rules), lit< tt)
+pub register_one-requires : goal.register_one-requires
+register_one-requires g c = (phaser_fits g.row.B g.row.W (search rules), lit< tt)
