@@ -210,13 +210,24 @@ kept a = record { low = a.within.0; high = rw length-shown a.within.1; chained =
 
 -- what the ghost fields say, from the invariant
 abbrev pub Whole : {T : Type 0} → ℕ → List (Slot T) → ℕ → Option ℕ → ℕ → ℕ → Type 0
-Whole N ss cap h u l = (l ≤ u × u ≤ cap) × ((cap ≤ N × (length ss ≡ N)) × ((linked (u - l) u (take cap ss) h ≡ true) × ((occupied (cells u (take cap ss)) ≡ l) × Unit {0})))
+Whole N ss cap h u l =
+    record {
+      within : (l ≤ u) × (u ≤ cap);
+      sized : (cap ≤ N) × (length ss ≡ N);
+      chained : linked (u - l) u (take cap ss) h ≡ true;
+      counted : occupied (cells u (take cap ss)) ≡ l;
+    }
 
 pub whole : {T : Type 0} {N : ℕ} (a : Arena T N) (p : ℕ) (s : Slot T) (h : Option ℕ) (u l : ℕ) → p < a.capacity → Kept (set (shown a) p s) h u l → Whole N (set a.slots p s) a.capacity h u l
 whole a p s h u l below k =
     let q = shown-set a p s below in
     let n : length (set (shown a) p s) ≡ a.capacity = rw length-set (length-shown a) in
-    ((k.low, omega (arith, k.high)), ((a.sized.0, rw length-set a.sized.1), (rw q k.chained, (rw q k.counted, tt))))
+    record {
+      within = (k.low, omega (arith, k.high));
+      sized = (a.sized.0, rw length-set a.sized.1);
+      chained = rw q k.chained;
+      counted = rw q k.counted;
+    }
 
 -- a place that holds something is below the capacity
 pub held_below : {T : Type 0} {N : ℕ} (a : Arena T N) (p : ℕ) (v : T) → at (cells a.used (shown a)) p ≡ Some v → p < a.capacity

@@ -5,7 +5,13 @@ use Rattle.arena.proofs.arena.Arena.clear.Goals as goal
 
 pub invariant_of-self : goal.invariant_of-self
 unfolding table_of
-invariant_of-self g c = ((omega arith, omega arith), (c.args.self.now.sized, (refl, (occupied_none (shown c.args.self.now), tt))))
+invariant_of-self g c =
+    record {
+      within = (omega arith, omega arith);
+      sized = c.args.self.now.sized;
+      chained = refl;
+      counted = occupied_none (shown c.args.self.now);
+    }
 
 pub returns : goal.returns
 unfolding table_of

@@ -9,7 +9,12 @@ pub invariant_of-result : goal.invariant_of-result
 unfolding table_of
 invariant_of-result g c =
     let n : length c.args.slots ≡ g.row.N = search rules in
-    ((omega arith, omega arith), ((c.if-capacity.false, n), (refl, (occupied_none (take c.args.capacity c.args.slots), tt))))
+    record {
+      within = (omega arith, omega arith);
+      sized = (c.if-capacity.false, n);
+      chained = refl;
+      counted = occupied_none (take c.args.capacity c.args.slots);
+    }
 
 pub returns : goal.returns
 unfolding table_of

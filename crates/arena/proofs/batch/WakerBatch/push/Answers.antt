@@ -9,7 +9,10 @@ pub invariant_of-self : goal.invariant_of-self
 invariant_of-self g c =
     let b = c.args.self.now in
     let h : b.len < length b.wakers = omega arith in
-    ((omega arith, rw length-set b.within.1), (rw (pushed_more b.wakers b.len c.args.waker h, length_push, b.filled), tt))
+    record {
+      within = (omega arith, rw length-set b.within.1);
+      filled = rw (pushed_more b.wakers b.len c.args.waker h, length_push, b.filled);
+    }
 
 pub returns : goal.returns
 returns g c =
