@@ -7,7 +7,7 @@ use Rattle.phaser.proofs.barrier.Barrier.follow.Goals as goal
 pub invariant_of-self : goal.invariant_of-self
 invariant_of-self g c =
     let b = c.args.self.now in
-    (still_to_come b.n b.arrived b.some_to_come c.requires, tt)
+    record { some_to_come = still_to_come b.n b.arrived b.some_to_come c.requires }
 
 pub returns-in-Err : goal.returns-in-Err
 returns-in-Err g c =

@@ -11,7 +11,10 @@ returns-in_default g c =
 pub invariant_of-self : goal.invariant_of-self
 invariant_of-self g c =
     let n = c.args.self.now.counts in
-    (omega (arith, n.within, c.in-Some.ensures.1), (λ _ some. admit_awaited n.closed n.registered n.unarrived c.args.parties c.in-Some.registered c.if-c.false n.awaited c.in-Some.ensures.1 some, tt))
+    record {
+      within = omega (arith, n.within, c.in-Some.ensures.1);
+      awaited = λ _ some. admit_awaited n.closed n.registered n.unarrived c.args.parties c.in-Some.registered c.if-c.false n.awaited c.in-Some.ensures.1 some;
+    }
 
 pub returns-in-Ok : goal.returns-in-Ok
 returns-in-Ok g c =

@@ -6,7 +6,10 @@ use Rattle.phaser.proofs.phaser.Phaser.settle.Goals as goal
 
 pub invariant_of-self : goal.invariant_of-self
 invariant_of-self g c =
-    (c.requires, (awaited_from c.args.self.now.counts.closed c.args.registered c.args.unarrived c.then-c.either, tt))
+    record {
+      within = c.requires;
+      awaited = awaited_from c.args.self.now.counts.closed c.args.registered c.args.unarrived c.then-c.either;
+    }
 
 pub returns-then-c : goal.returns-then-c
 returns-then-c g c =
