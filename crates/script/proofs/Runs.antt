@@ -26,7 +26,7 @@ pub record Left (rest all : List ℕ) (w v : Writer) : Type 0 where
   pub bytes : overwritten v.len rest v.out.now ≡ overwritten w.len all w.out.now
   pub end : v.len + length rest ≡ w.len + length all
   pub room : length v.out.now ≡ length w.out.now
-  pub same : v.out.name ≡ w.out.name
+  pub same : v.out.ghost_name ≡ w.out.ghost_name
 
 pub left_all : (all : List ℕ) (w : Writer) → Left all all w w
 left_all all w = record { bytes = refl; end = refl; room = refl; same = refl }

@@ -6,14 +6,14 @@ use Rattle.stations.proofs.whole.Station.open.Goals as goal
 pub waiters-requires : goal.waiters-requires
 waiters-requires g c = (search rules, (set-fits g.row.B g.row.W (search rules), (limits c.args.opening (sym c.fits.ensures ∙ c.if-not-fits.false)).phaser_slots))
 
-pub new_phaser-requires : goal.new_phaser-requires
-new_phaser-requires g c = (set-fits g.row.B g.row.W (search rules), phaser_fits g.row.B g.row.W (search rules))
+pub new-phaser-requires : goal.new-phaser-requires
+new-phaser-requires g c = (set-fits g.row.B g.row.W (search rules), phaser_fits g.row.B g.row.W (search rules))
 
 pub waiters-requires-2 : goal.waiters-requires-2
 waiters-requires-2 g c = (search rules, (set-fits g.row.B g.row.W (search rules), (limits c.args.opening (sym c.fits.ensures ∙ c.if-not-fits.false)).barrier_slots))
 
-pub new_barrier-requires : goal.new_barrier-requires
-new_barrier-requires g c = (set-fits g.row.B g.row.W (search rules), barrier_fits g.row.B g.row.W (search rules))
+pub new-barrier-requires : goal.new-barrier-requires
+new-barrier-requires g c = (set-fits g.row.B g.row.W (search rules), barrier_fits g.row.B g.row.W (search rules))
 
 pub table-requires : goal.table-requires
 table-requires g c = (lit< tt, (lit< tt, (limits c.args.opening (sym c.fits.ensures ∙ c.if-not-fits.false)).members))
