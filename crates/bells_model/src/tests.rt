@@ -125,11 +125,11 @@ fn a_queue_keeps_the_ring_order(rt: HostRuntime) {
     for task in [5, 3, 9, 5, 1024, 3] {
         queue.ring(task);
     }
-    assert!(rt; queue.in_order() == &[5, 3, 9]);
+    assert!(rt; queue.in_order() == [5, 3, 9].as_slice());
     queue.collect(3);
-    assert!(rt; queue.in_order() == &[5, 9]);
+    assert!(rt; queue.in_order() == [5, 9].as_slice());
     queue.ring(3);
-    assert!(rt; queue.in_order() == &[5, 9, 3]);
+    assert!(rt; queue.in_order() == [5, 9, 3].as_slice());
 }
 
 #[test]

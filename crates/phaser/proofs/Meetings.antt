@@ -1,5 +1,5 @@
 -- Each way through a barrier's calls, as a step of the rules. Assumes nothing.
-use Rattle.std.proofs.Common.{◌≡◌, ℕ, ◌+◌, ◌-◌, ◌^◌, ◌<◌, ◌≤◌, max, Bool, true, false, cond, not, ◌&&◌, eqb, ltb, Some, None, Ok, Err, Option, Result, sym, refl, ap, ◌∙◌, arith}
+use Rattle.std.proofs.Common.{◌≡◌, ℕ, ◌+◌, ◌-◌, ◌^◌, ◌<◌, ◌≤◌, max, Bool, true, false, cond, not, ◌&&◌, eqb, ltb, Some, None, Ok, Err, Result, sym, ap, ◌∙◌, arith}
 use Rattle.std.proofs.lemmas.Bool.{cond-true, cond-false, not_from_true, ne_eqb, eqb-false, le-ltb, and_right, and_left}
 use Rattle.bells.specs.declared.refusal.Refusal.{Refusal}
 use Rattle.bells.specs.declared.refusal.Refusal.TheVariants.{UnknownTask, LastGeneration}

@@ -1,17 +1,16 @@
 -- What is refused leaves the parts as they were. Assumes nothing.
-use Rattle.std.proofs.Common.{◌≡◌, ℕ, ◌+◌, ◌-◌, Bool, true, false, cond, eqb, ltb, List, [], ◌∷◌, length, set, Some, None, Ok, Err, Option, Result, sym, refl, ap, ◌∙◌, subst}
+use Rattle.std.proofs.Common.{◌≡◌, ℕ, Bool, true, false, cond, eqb, ltb, List, [], ◌∷◌, length, set, Some, None, Ok, Err, Option, Result, sym, refl, ap, subst}
 use Rattle.bells.specs.declared.refusal.Refusal.{Refusal}
-use Rattle.bells.specs.declared.refusal.Refusal.TheVariants.{TableFull}
 use Rattle.bells.specs.Due.{Due}
 use Rattle.bells.specs.Kind.{Kind}
 use Rattle.arena.specs.declared.wait.Wait.{Wait}
 use Rattle.arena.specs.declared.wait.Entry.{Entry}
 use Rattle.arena.specs.declared.set.Registered.{Registered}
-use Rattle.arena.specs.Table.{Table, insert, insert_at, replace}
+use Rattle.arena.specs.Table.{Table, insert, insert_at}
 use Rattle.arena.specs.Wakers.{register, seated, seat, renew, own}
 use Rattle.phaser.specs.declared.outcome.Outcome.{Outcome}
-use Rattle.phaser.specs.Model.{Tally, Phaser}
-use Rattle.phaser.specs.Rules.{parked_by, complete, settle, counted}
+use Rattle.phaser.specs.Model.{Phaser}
+use Rattle.phaser.specs.Rules.{parked_by, complete}
 use Rattle.phaser.specs.Members.{kept, first_poll}
 
 -- the answer is a refusal, and then what is left is x

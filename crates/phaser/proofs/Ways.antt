@@ -1,6 +1,6 @@
 -- Each way through a call, as a step of the rules: apart from the functions, whose contexts hold more than a search can read.
-use Rattle.std.proofs.Common.{◌≡◌, ℕ, zero, suc, ◌+◌, ◌-◌, ◌%◌, ◌^◌, ◌<◌, ◌≤◌, max, Bool, true, false, cond, not, ◌&&◌, ◌||◌, eqb, ltb, leb, ◌⊎◌, Some, None, Ok, Err, Option, Result, sym, refl, ap, ◌∙◌, subst, inl, inr, ⊎_elim, arith}
-use Rattle.std.proofs.lemmas.Bool.{ne_eqb, eq-eqb, both_ways, lt-ltb, le-ltb, le-leb, lt-leb, or_right, or_from, cases_lt, cond-true, cond-false, not_from_true}
+use Rattle.std.proofs.Common.{◌≡◌, ℕ, zero, suc, ◌+◌, ◌-◌, ◌%◌, ◌^◌, ◌<◌, ◌≤◌, Bool, true, false, cond, not, ◌&&◌, ◌||◌, eqb, ltb, ◌⊎◌, Some, None, Ok, Err, Option, Result, sym, refl, ap, ◌∙◌, inl, inr, ⊎_elim, arith}
+use Rattle.std.proofs.lemmas.Bool.{ne_eqb, eq-eqb, both_ways, lt-ltb, le-ltb, le-leb, lt-leb, or_right, or_from, cases_lt, cond-false, not_from_true}
 use Rattle.bells.specs.declared.refusal.Refusal.{Refusal}
 use Rattle.bells.specs.declared.refusal.Refusal.TheVariants.{Closed, CountOverflow, UnknownTask, Miscounted}
 use Rattle.bells.specs.Due.{Due}
@@ -20,10 +20,10 @@ use Rattle.phaser.specs.declared.outcome.Outcome.TheVariants as outcome
 use Rattle.phaser.specs.declared.outcome.Polled.{Polled}
 use Rattle.phaser.specs.declared.watcher.Watcher.{Watcher}
 use Rattle.phaser.specs.Model.{Tally, Phaser}
-use Rattle.phaser.specs.Rules.{Parts, wait_of, counted, woken, settle, moved_on, parked_by, complete}
+use Rattle.phaser.specs.Rules.{Parts, wait_of, counted, settle, parked_by, complete}
 use Rattle.phaser.specs.Members as members
 use Rattle.phaser.specs.Watchers as watchers
-use Rattle.phaser.proofs.Refused.{Kept, kept_left, insert-kept, register-kept, complete-kept, first_poll-kept}
+use Rattle.phaser.proofs.Refused.{kept_left, insert-kept, register-kept, complete-kept, first_poll-kept}
 
 -- ── the completion rule ──
 module _ {W : Type 0} (wakes : W → W → Bool) (observed : ℕ) (slot : Option ℕ) (owner : Wait) (w : W) (p : Phaser W) where

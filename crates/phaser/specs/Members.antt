@@ -1,5 +1,5 @@
 -- The members' calls: what each answers, and what it leaves of the parts that it is handed. Assumes nothing.
-use Rattle.std.specs.Prelude.{ℕ, ◌+◌, ◌-◌, ◌^◌, Bool, true, false, cond, not, ◌&&◌, ◌||◌, Some, None, Ok, Err, Option, Result, ◌==◌, nat_le, nat_lt}
+use Rattle.std.specs.Prelude.{ℕ, ◌+◌, ◌-◌, ◌^◌, Bool, false, cond, not, ◌&&◌, ◌||◌, Some, None, Ok, Err, Option, Result, ◌==◌, nat_le, nat_lt}
 use Rattle.bells.specs.declared.refusal.Refusal.{Refusal}
 use Rattle.bells.specs.declared.refusal.Refusal.TheVariants.{Closed, CountOverflow, Vacant, UnknownTask, Miscounted}
 use Rattle.bells.specs.declared.refusal.Refusal.TheVariants as refusal

@@ -1,5 +1,5 @@
 -- A buffer that is written piece by piece. Assumes nothing.
-use Rattle.std.proofs.Common.{◌≡◌, ℕ, ◌+◌, ◌-◌, ◌^◌, ◌<◌, ◌≤◌, List, [], ◌∷◌, ◌++◌, length, take, drop, Some, None, codes, decimal, Option, sym, refl, ap, ◌∙◌, append_assoc, append-nil, add_assoc, zero-add, arith}
+use Rattle.std.proofs.Common.{◌≡◌, ℕ, ◌+◌, ◌-◌, ◌^◌, ◌<◌, ◌≤◌, List, [], ◌∷◌, ◌++◌, length, take, drop, Some, None, codes, decimal, Option, sym, ap, ◌∙◌, append_assoc, append-nil, zero-add, arith}
 use borrow.Rule.Slice.PartMut.{put_mid}
 use Rattle.std.proofs.lemmas.List.{take_rest, drop_all, drop-drop, length-drop, length-append, length-take-le, take_at, drop_at}
 use Rattle.script.specs.declared.writer.Writer.{Writer}

@@ -1,4 +1,4 @@
-use Rattle.std.proofs.Common.{◌+◌, sym, ◌∙◌, rules}
+use Rattle.std.proofs.Common.{◌+◌, ◌∙◌, rules}
 use Rattle.std.proofs.lemmas.List.{take_rest}
 use Rattle.script.proofs.Parts.{without_more, before_here, after_here, before_all, after_all}
 use Rattle.script.proofs.bytes.cut.Goals as goal

@@ -1,4 +1,4 @@
-use Rattle.std.proofs.Common.{sym, ◌∙◌, arith, rules}
+use Rattle.std.proofs.Common.{◌∙◌, arith}
 use Rattle.script.proofs.Digits.{other_byte, too_large, so_far_more, all_read}
 use Rattle.script.proofs.field.number_after.Goals as goal
 

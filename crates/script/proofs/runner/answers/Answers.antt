@@ -1,10 +1,8 @@
 use Rattle.std.proofs.Common.{◌^◌, ◌<◌, length, arith, rules}
 use Rattle.station.specs.Model.{station_of}
-use Rattle.script.specs.Bytes.{lines}
-use Rattle.script.specs.Runs.{answers}
 use Rattle.script.proofs.Buffers.{fault_line-within}
-use Rattle.script.proofs.Lines.{Parted, parted, lines_le}
-use Rattle.script.proofs.Runs.{left_all, line_room, line_few, answered, faulted, all_answered}
+use Rattle.script.proofs.Lines.{Parted, parted}
+use Rattle.script.proofs.Runs.{left_all, answered, faulted, all_answered}
 use Rattle.script.proofs.runner.answers.Given as given
 use Rattle.script.proofs.runner.answers.Goals as goal
 use Rattle.script.proofs.runner.answers.Goals.{After-cut}

@@ -1,4 +1,4 @@
-use Rattle.std.proofs.Common.{◌≡◌, ◌≤◌, true, length, arith, rules}
+use Rattle.std.proofs.Common.{◌≡◌, ◌≤◌, true, length, rules}
 use Rattle.script.specs.Bytes.{ended}
 use Rattle.script.proofs.Lines.{count_le}
 use Rattle.script.proofs.Runs.{fits_from}

@@ -4,7 +4,7 @@ use Rattle.script.specs.Writers.{Room}
 use Rattle.script.specs.Written.{heading}
 use Rattle.script.proofs.Buffers.{first_fault_within}
 use Rattle.script.proofs.Lines.{Parted, parted}
-use Rattle.script.proofs.Runs.{Fitting, fitting, ended_some, heading_room, played, not_played}
+use Rattle.script.proofs.Runs.{fitting, ended_some, heading_room, played, not_played}
 use Rattle.script.proofs.runner.play.Given as given
 use Rattle.script.proofs.runner.play.Goals as goal
 use Rattle.script.proofs.runner.play.Goals.{After-heading, After-cut}

@@ -1,5 +1,5 @@
-use Rattle.std.proofs.Common.{◌≡◌, ◌≤◌, length, sym, ap, ◌∙◌, subst, arith}
-use Rattle.station.specs.Answers.{word_of, value_of, Below64}
+use Rattle.std.proofs.Common.{◌≡◌, ◌≤◌, length, ap, ◌∙◌, subst, arith}
+use Rattle.station.specs.Answers.{word_of, Below64}
 use Rattle.script.specs.Written.{answer_line, told}
 use Rattle.script.specs.Writers.{Appends}
 use Rattle.script.proofs.Buffers.{told-within}
