@@ -1,4 +1,4 @@
--- Which tasks a list of flags says to be due.
+-- Which tasks a list of flags says to be due: proofs, of which the kinds hand one on as a member of the trait. Assumes nothing.
 use Rattle.std.specs.Prelude.{◌≡◌, ℕ, ◌<◌, ◌≤◌, Bool, true, false, not, ◌&&◌, ◌||◌, List, length, get_or, replicate, ◌==◌, nat_lt, slice_index_or, slice_set, refl}
 use Rattle.std.proofs.Common.{sym, ap, ◌∙◌, ⊎_elim, arith}
 use Rattle.std.proofs.Math.Path.{fun_ext}
@@ -15,6 +15,10 @@ flagged_past flags t h = is_due-flagged flags t ∙ get_or_past flags t false h
 
 pub flagged_known : (flags : List Bool) (t : ℕ) → is_due (flagged flags) t ≡ true → t < length flags
 flagged_known flags t h = ⊎_elim (λ l. l) (λ l. absurd (false≢true (sym (flagged_past flags t l) ∙ h))) (cases_lt t (length flags))
+
+-- only the tasks below `known` are due, where there are as many flags
+pub flagged_within : (flags : List Bool) (known t : ℕ) → length flags ≡ known → is_due (flagged flags) t ≡ true → t < known
+flagged_within flags known t sized h = let below = flagged_known flags t h in omega arith
 
 pub flagged_none : (n : ℕ) → flagged (replicate n false) ≡ none_due
 unfolding Due none_due flagged

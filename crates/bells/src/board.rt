@@ -1,8 +1,7 @@
 // The board: a bell that keeps a flag for each of 4,096 tasks.
 ghost use Rattle.std.specs.Prelude.{◌≡◌, length};
 ghost use Rattle.bells.specs.Due.{flagged};
-ghost use Rattle.std.proofs.Common.{rules};
-ghost use Rattle.bells.specs.Flags.{flagged_known};
+ghost use Rattle.bells.specs.Flags.{flagged_within};
 
 use super::bell::Bell;
 
@@ -21,7 +20,7 @@ impl Bell for Board {
 
     ghost meaning = { λ b. flagged b.flags };
 
-    ghost within = { λ b t h. let k = flagged_known b.flags t h in Prim.search rules };
+    ghost within = { λ b t due. flagged_within b.flags 4096 t b.sized due };
 
     fn new() -> Board {
         Board {

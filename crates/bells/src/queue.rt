@@ -2,8 +2,7 @@
 ghost use Rattle.std.specs.Prelude.{◌≡◌, ℕ, true, [], length, nat_lt};
 ghost use Rattle.bells.specs.Due.{is_due, none_due, rung, collected, how_many, flagged};
 ghost use Rattle.bells.specs.Orders.{listed, among, once, queued, without};
-ghost use Rattle.std.proofs.Common.{rules};
-ghost use Rattle.bells.specs.Flags.{flagged_known};
+ghost use Rattle.bells.specs.Flags.{flagged_within};
 
 use super::bell::Bell;
 use super::line::Line;
@@ -39,7 +38,7 @@ impl Bell for Queue {
 
     ghost meaning = { λ q. flagged q.flags };
 
-    ghost within = { λ b t h. let k = flagged_known b.flags t h in Prim.search rules };
+    ghost within = { λ q t due. flagged_within q.flags 1024 t q.sized due };
 
     fn new() -> Queue
         ensures none { flagged result.flags ≡ none_due }

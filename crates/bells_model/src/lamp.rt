@@ -16,7 +16,7 @@ impl Bell for Lamp {
 
     ghost meaning = { λ l. shining l.lit };
 
-    ghost within = { λ b t h. shining_known b.lit t h };
+    ghost within = { λ l t due. shining_known l.lit t due };
 
     fn new() -> Lamp {
         Lamp { lit: false }

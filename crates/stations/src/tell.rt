@@ -7,40 +7,40 @@ use bells::Refusal;
 use phaser::{Attended, Departed, Met, Polled};
 
 // A new place.
-pub(crate) fn placed(res: Result<usize, Refusal>) -> Answer
-    ensures { result ≡ answered Answer.Place res }
+pub(crate) fn placed(outcome: Result<usize, Refusal>) -> Answer
+    ensures { result ≡ answered Answer.Place outcome }
 {
-    match res {
+    match outcome {
         Ok(place) => Answer::Place(place),
         Err(refusal) => Answer::Refused(refusal),
     }
 }
 
 // A number.
-pub(crate) fn numbered(res: Result<u64, Refusal>) -> Answer
-    ensures { result ≡ answered Answer.Number res }
+pub(crate) fn numbered(outcome: Result<u64, Refusal>) -> Answer
+    ensures { result ≡ answered Answer.Number outcome }
 {
-    match res {
+    match outcome {
         Ok(number) => Answer::Number(number),
         Err(refusal) => Answer::Refused(refusal),
     }
 }
 
 // Nothing to tell.
-pub(crate) fn done(res: Result<(), Refusal>) -> Answer
-    ensures { result ≡ answered no_value res }
+pub(crate) fn done(outcome: Result<(), Refusal>) -> Answer
+    ensures { result ≡ answered no_value outcome }
 {
-    match res {
+    match outcome {
         Ok(()) => Answer::Ok,
         Err(refusal) => Answer::Refused(refusal),
     }
 }
 
 // The place of the batch's next member, if one remained.
-pub(crate) fn taken(res: Result<Option<usize>, Refusal>) -> Answer
-    ensures { result ≡ answered place_or_none res }
+pub(crate) fn taken(outcome: Result<Option<usize>, Refusal>) -> Answer
+    ensures { result ≡ answered place_or_none outcome }
 {
-    match res {
+    match outcome {
         Ok(Some(place)) => Answer::Place(place),
         Ok(None) => Answer::None,
         Err(refusal) => Answer::Refused(refusal),
@@ -48,10 +48,10 @@ pub(crate) fn taken(res: Result<Option<usize>, Refusal>) -> Answer
 }
 
 // How a wait for a phase stands.
-pub(crate) fn polled(res: Result<Polled, Refusal>) -> Answer
-    ensures { result ≡ answered polling res }
+pub(crate) fn polled(outcome: Result<Polled, Refusal>) -> Answer
+    ensures { result ≡ answered polling outcome }
 {
-    match res {
+    match outcome {
         Ok(Polled::Ready(phase)) => Answer::Ready(phase),
         Ok(Polled::Closed) => Answer::Closed,
         Ok(Polled::Parked) => Answer::Parked,
@@ -60,10 +60,10 @@ pub(crate) fn polled(res: Result<Polled, Refusal>) -> Answer
 }
 
 // The phase that was left, if open.
-pub(crate) fn departed(res: Result<Departed, Refusal>) -> Answer
-    ensures { result ≡ answered departing res }
+pub(crate) fn departed(outcome: Result<Departed, Refusal>) -> Answer
+    ensures { result ≡ answered departing outcome }
 {
-    match res {
+    match outcome {
         Ok(Departed::Left(phase)) => Answer::Number(phase),
         Ok(Departed::Closed) => Answer::Closed,
         Err(refusal) => Answer::Refused(refusal),
@@ -71,10 +71,10 @@ pub(crate) fn departed(res: Result<Departed, Refusal>) -> Answer
 }
 
 // Whether this meeting leads.
-pub(crate) fn met(res: Result<Met, Refusal>) -> Answer
-    ensures { result ≡ answered meeting res }
+pub(crate) fn met(outcome: Result<Met, Refusal>) -> Answer
+    ensures { result ≡ answered meeting outcome }
 {
-    match res {
+    match outcome {
         Ok(Met::Leader) => Answer::Leader,
         Ok(Met::Parked(place)) => Answer::ParkedAt(place),
         Err(refusal) => Answer::Refused(refusal),
@@ -82,10 +82,10 @@ pub(crate) fn met(res: Result<Met, Refusal>) -> Answer
 }
 
 // How a wait for the others stands.
-pub(crate) fn attended(res: Result<Attended, Refusal>) -> Answer
-    ensures { result ≡ answered attending res }
+pub(crate) fn attended(outcome: Result<Attended, Refusal>) -> Answer
+    ensures { result ≡ answered attending outcome }
 {
-    match res {
+    match outcome {
         Ok(Attended::Done) => Answer::Done,
         Ok(Attended::Parked) => Answer::Parked,
         Err(refusal) => Answer::Refused(refusal),

@@ -32,8 +32,7 @@ impl<B: Bell, W: Waker + Drop + Copy> Station<B, W> {
     pub(super) fn arrived(&self) -> Answer
         ensures { (result, station_of B.Bell.meaning self.now) ≡ step (kind_of B.Bell.known W.Waker.names W.Waker.wakes W.Waker.same) Call.Arrived (station_of B.Bell.meaning self.now) }
     {
-        let registered = self.phaser.registered();
-        Answer::Number(registered.saturating_sub(self.phaser.unarrived()))
+        Answer::Number(self.phaser.arrived())
     }
 
     pub(super) fn unarrived(&self) -> Answer
