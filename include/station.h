@@ -4,7 +4,7 @@
  * A script is a text of lines, one call on each; its run makes the calls on a new station, one after another, and
  * writes an answer line for each. docs/RULES.md says what the calls do and how scripts and answers are written.
  *
- * Link target/staticlib/libscript.a, which `rt staticlib script` makes. Nothing is allocated, no state is kept between
+ * Link target/staticlib/libscript.a, which `tools/build script_c` makes. Nothing is allocated, no state is kept between
  * two runs, and a run of any bytes with a buffer of any length returns.
  */
 #ifndef STATION_H
