@@ -10,7 +10,7 @@ pub trait Waker {
     ghost wakes: { Self → Self → Bool };
 
     // Yes is said only where both name one task; no may be said there too.
-    // The proof is a member, and not a `law`, so that clauses can hand it on in a `Kind`.
+    // The proof is a member by a name, so that clauses can hand it on in a `Kind`.
     ghost same: { (a b : Self) → wakes a b ≡ true → names a ≡ names b };
 
     // The task that it names.
