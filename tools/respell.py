@@ -85,6 +85,8 @@ def main():
     clash = {name: sorted(olds) for name, olds in back.items() if len(olds) > 1 or name in (words | fields | lemmas) - set(new)}
     for name, olds in sorted(clash.items()):
         print(f"falls together: {', '.join(olds)} as {name}", file=sys.stderr)
+    if clash:
+        raise SystemExit(1)
     if "--list" in sys.argv:
         for old, name in sorted(new.items()):
             print(old, name)

@@ -3,7 +3,7 @@ ghost use Rattle.std.specs.Prelude.{◌≡◌};
 ghost use Rattle.bells.specs.Kind.{kind_of};
 ghost use Rattle.arena.specs.Arenas.{table_of};
 ghost use Rattle.phaser.specs.Model.{phaser_of};
-ghost use Rattle.phaser.specs.Members.{arrive_as as arrives_as, arrive as arrives, first_poll as polls_first, poll_as as polls_as, poll as polls, cancel as cancels};
+ghost use Rattle.phaser.specs.Members.{arrive_as as arrives_as, arrive as arrives, first_poll as polls_first, poll as polls, cancel as cancels};
 
 use super::super::counts::Counts;
 use super::super::member::Member;

@@ -3,7 +3,7 @@ ghost use Rattle.std.specs.Prelude.{◌≡◌};
 ghost use Rattle.bells.specs.Kind.{kind_of};
 ghost use Rattle.arena.specs.Arenas.{table_of};
 ghost use Rattle.phaser.specs.Model.{phaser_of};
-ghost use Rattle.phaser.specs.Members.{shed as sheds, withdraw as withdraws, leave_by as leaves_by, departure, deregister as deregisters, leave as leaves};
+ghost use Rattle.phaser.specs.Members.{shed as sheds, withdraw as withdraws, departure, deregister as deregisters, leave as leaves};
 
 use super::super::member::{Batch, Member};
 use super::super::outcome::Departed;
