@@ -2,7 +2,9 @@ mod Counts
 mod Places
 mod Steps
 mod Values
-mod Pours
 pub mod Sounds
+pub mod Laws
+pub mod Arenas
 pub mod Parks
+pub mod SetLaws
 pub mod Woken

@@ -1,138 +1,112 @@
--- The laws of a waker set: a registered wait is parked, an unregistered one is not, and the set stays sound.
-use Rattle.std.proofs.Common.{◌≡◌, ℕ, Bool, true, cond, eqb, length, Some, None, Ok, Err, Option, Result, sym, refl, ap, ◌∙◌, subst, arith}
-use Rattle.std.proofs.lemmas.Bool.{eq-eqb, ne_eqb, and_from, cond_both}
+-- The laws of a waker set: a registered wait is parked, and an unregistered one is not.
+use Rattle.std.proofs.Common.{◌≡◌, ℕ, Bool, true, false, ◌&&◌, cond, eqb, Some, None, Ok, Err, Option, Result, sym, refl, ap, ◌∙◌, arith}
+use Rattle.std.proofs.lemmas.Bool.{eq-eqb, ne_eqb, and_from, both_ways}
+use Rattle.std.proofs.Math.Bool.{and_comm}
+use Rattle.std.specs.Bool.{then_some}
+use Rattle.std.specs.Result.{is_ok}
+use denote.Enum.Bare.{sameb}
+use Rattle.arena.specs.contracts.wait.WaitTable.{the_type}
 use Rattle.bells.specs.declared.refusal.Refusal.{Refusal}
+use Rattle.bells.specs.declared.refusal.Refusal.TheVariants.{NoSlot}
 use Rattle.arena.specs.declared.wait.WaitTable.{WaitTable}
 use Rattle.arena.specs.declared.wait.WaitTable.TheVariants.{Members, Watchers, Followers}
 use Rattle.arena.specs.declared.wait.Wait.{Wait}
 use Rattle.arena.specs.declared.wait.Entry.{Entry}
 use Rattle.arena.specs.declared.set.Registered.{Registered}
-use Rattle.bells.specs.Due.{Due}
-use Rattle.arena.specs.Table.{Table, get, insert, replace, replace_at, remove, remove_at, values, occupied, emptied}
-use Rattle.arena.specs.Sound.{Sound, Inserted}
+use Rattle.arena.specs.Table.{Table, get, insert, replace}
+use Rattle.arena.specs.Sound.{Inserted, Replaced, Removed}
 use Rattle.arena.specs.Waits.{same_table, same_wait}
-use Rattle.arena.specs.Wakers.{own_of, own, seated, renew, leave, register, unregister, wake_all, Parks, Parked, Left}
-use Rattle.arena.specs.Ringing.{each_rung}
-use Rattle.arena.proofs.Sounds.{insert_law, insert_sound, replace_sound, remove_sound, fresh_sound, changed_after, freed_after}
+use Rattle.arena.proofs.Steps.{chosen}
+use Rattle.arena.specs.Wakers.{own_of, own, seated, register, unregister, Parks, Parked, Left}
 
 same_table_self : (a : WaitTable) → same_table a a ≡ true
 same_table_self Members = refl
 same_table_self Watchers = refl
 same_table_self Followers = refl
 
+-- what the derived equality answers
+pub same_table_derived : (a b : WaitTable) → sameb the_type a b ≡ same_table a b
+same_table_derived Members Members = refl
+same_table_derived Members Watchers = refl
+same_table_derived Members Followers = refl
+same_table_derived Watchers Members = refl
+same_table_derived Watchers Watchers = refl
+same_table_derived Watchers Followers = refl
+same_table_derived Followers Members = refl
+same_table_derived Followers Watchers = refl
+same_table_derived Followers Followers = refl
+
+pub same_wait_derived : (a b : Wait) → (sameb the_type a.table b.table && eqb a.place b.place) ≡ same_wait a b
+same_wait_derived a b = rw same_table_derived (and_comm (same_table a.table b.table) (eqb a.place b.place))
+
+pub own_found : {W : Type 0} (owner : Wait) (e : Entry W) (b : Bool) → b ≡ (sameb the_type e.owner.table owner.table && eqb e.owner.place owner.place) → then_some b e.waker ≡ own_of owner (Some e)
+own_found owner e b d = rw (chosen, d, same_wait_derived)
+
 pub same_wait_self : (a : Wait) → same_wait a a ≡ true
 same_wait_self a = and_from _ _ (eq-eqb a.place a.place refl) (same_table_self a.table)
 
-module _ {W : Type 0} (names : W → ℕ) (remembered : Option ℕ) (owner : Wait) (w : W) (t : Table (Entry W)) where
+module _ {W : Type 0} (owner : Wait) (w : W) (t : Table (Entry W)) where
   abbrev entry : Entry W
   entry = record { waker = w; owner = owner }
 
   -- an entry written to a slot is the wait's own
-  own_written : (slot : ℕ) (t' : Table (Entry W)) → get slot t' ≡ cond (eqb slot slot) (Some entry) (get slot t) → own (Some slot) owner t' ≡ Some w
-  own_written slot t' e =
+  written : (names : W → ℕ) (slot : ℕ) (t' : Table (Entry W)) → ((q : ℕ) → get q t' ≡ cond (eqb q slot) (Some entry) (get q t)) → Parks names owner w t slot t'
+  written names slot t' reads =
       let z = eq-eqb slot slot refl in
-      let k : get slot t' ≡ Some entry = rw z at e in
+      let k : get slot t' ≡ Some entry = rw z at (reads slot) in
       let y = same_wait_self owner in
-      ap (own_of owner) k ∙ rw y
+      record { waker = w; held = ap (own_of owner) k ∙ rw y; target = refl; others = λ q ne. let z = ne_eqb q slot ne in rw z at (reads q) }
 
-  untouched : (slot : ℕ) (t' : Table (Entry W)) → ((q : ℕ) → get q t' ≡ cond (eqb q slot) (Some entry) (get q t)) → (q : ℕ) → (q ≡ slot → ⊥) → get q t' ≡ get q t
-  untouched slot t' reads q ne = let z = ne_eqb q slot ne in rw z at (reads q)
+  pub seat_parked : (names : W → ℕ) (remembered : Option ℕ) → own remembered owner t ≡ None → (x : Result ℕ Refusal × Table (Entry W)) → Inserted entry t x.0 x.1 → Parked names remembered owner w t (seated x).0 (seated x).1
+  seat_parked names remembered none (Ok slot, t') k = written names slot t' k.reads
+  seat_parked names remembered none (Err e, t') k = (refl, none, k.1)
 
-  seat_parked : own remembered owner t ≡ None → (x : Result ℕ Refusal × Table (Entry W)) → Inserted entry t x.0 x.1 → Parked names remembered owner w t (seated x).0 (seated x).1
-  seat_parked none (Ok slot, t') k =
-      record { waker = w; held = own_written slot t' (k.reads slot); target = refl; others = λ q ne. untouched slot t' k.reads q ne }
-  seat_parked none (Err e, t') k = (refl, none, k.1)
+  register_seats : (wakes : W → W → Bool) (remembered : Option ℕ) → own remembered owner t ≡ None → register wakes remembered owner w t ≡ seated (insert entry t)
+  register_seats wakes None h = refl
+  register_seats wakes (Some slot) h = rw h
+
+  -- a wait that is not parked is seated, which parks it or is refused
+  pub seats : (names : W → ℕ) (wakes : W → W → Bool) (remembered : Option ℕ) (r : Result ℕ Refusal) (t' : Table (Entry W)) → own remembered owner t ≡ None → ◌≡◌ {A = Result ℕ Refusal × Table (Entry W)} (r, t') (insert entry t) → Inserted entry t r t' → (seated (r, t') ≡ register wakes remembered owner w t) × Parked names remembered owner w t (seated (r, t')).0 (seated (r, t')).1
+  seats names wakes remembered r t' none k i =
+      (ap seated k ∙ sym (register_seats wakes remembered none), seat_parked names remembered none (r, t') i)
+
+pub seated_err : {W : Type 0} (r : Result ℕ Refusal) (t' : Table (Entry W)) → is_ok r ≡ false → seated (r, t') ≡ (Err NoSlot, t')
+seated_err (Ok slot) t' h = absurd (both_ways false refl (sym h))
+seated_err (Err e) t' h = refl
 
 -- a slot with the wait's own entry is taken
-own_held : {W : Type 0} (owner : Wait) (c : Option (Entry W)) (old : W) → own_of owner c ≡ Some old → (e : Entry W) × (c ≡ Some e)
-own_held owner None old h = let z : ◌≡◌ {A = ℕ} 0 1 = cc in absurd (omega arith)
-own_held owner (Some e) old h = (e, refl)
+not_vacant : {W : Type 0} (owner : Wait) (c : Option (Entry W)) (old : W) → own_of owner c ≡ Some old → c ≡ None → ⊥
+not_vacant owner c old h e = let z : ◌≡◌ {A = ℕ} 0 1 = cc in omega arith
 
-module _ {W : Type 0} (names : W → ℕ) (wakes : W → W → Bool) (same : (a b : W) → wakes a b ≡ true → names a ≡ names b) (owner : Wait) (w : W) (t : Table (Entry W)) (s : Sound t) where
-  abbrev Rule : Option ℕ → Result (Registered W) Refusal × Table (Entry W) → Type 0
-  Rule remembered x = Parked names remembered owner w t x.0 x.1
+module _ {W : Type 0} (owner : Wait) (t : Table (Entry W)) (slot : ℕ) (old : W) (h : own (Some slot) owner t ≡ Some old) where
+  -- a parked wait keeps its entry, or gets the new waker in it
+  pub kept_parked : (names : W → ℕ) (w : W) → names old ≡ names w → Parks names owner w t slot t
+  kept_parked names w q = record { waker = old; held = h; target = q; others = λ i ne. refl }
 
-  renewed : (slot : ℕ) (e : Entry W) → get slot t ≡ Some e → Parks names owner w t slot (replace slot (record { waker = w; owner = owner }) t).1
-  renewed slot e h =
-      let new : Entry W = record { waker = w; owner = owner } in
-      let t' = (replace_at slot new (Some e) t).1 in
-      let q : replace slot new t ≡ replace_at slot new (Some e) t = ap (λ c. replace_at slot new c t) h in
-      let k = changed_after slot e new t t' s (sym q) in
-      subst (λ (x : Result (Entry W) Refusal × Table (Entry W)). Parks names owner w t slot x.1) (sym q)
-      (record { waker = w; held = own_written names (Some slot) owner w t slot t' (k.reads slot); target = refl; others = λ i ne. untouched names (Some slot) owner w t slot t' k.reads i ne })
+  pub renewed_parked : (names : W → ℕ) (w : W) (r : Result (Entry W) Refusal) (t' : Table (Entry W)) → Replaced slot (record { waker = w; owner = owner }) t r t' → Parks names owner w t slot t'
+  renewed_parked names w (Ok e) t' k = written owner w t names slot t' k.reads
+  renewed_parked names w (Err e) t' k = absurd (not_vacant owner (get slot t) old h k.1)
 
-  renew_parked : (slot : ℕ) (o : Option W) → own (Some slot) owner t ≡ o → Rule (Some slot) (renew wakes slot owner w o t)
-  renew_parked slot None h = seat_parked names (Some slot) owner w t h (insert (record { waker = w; owner = owner }) t) (insert_law (record { waker = w; owner = owner }) t s)
-  renew_parked slot (Some old) h =
-      cond_both {A = Result (Registered W) Refusal × Table (Entry W)} (wakes old w) (Ok (record { slot = slot; replaced = None }), t) (Ok (record { slot = slot; replaced = Some old }), (replace slot (record { waker = w; owner = owner }) t).1) (Rule (Some slot))
-      (λ e. record { waker = old; held = h; target = same old w e; others = λ q ne. refl })
-      (λ e. let o = own_held owner (get slot t) old h in renewed slot o.0 o.1)
+  pub kept_step : (wakes : W → W → Bool) (w : W) → wakes old w ≡ true → ◌≡◌ {A = Result (Registered W) Refusal × Table (Entry W)} (Ok (record { slot = slot; replaced = None }), t) (register wakes (Some slot) owner w t)
+  kept_step wakes w q = rw (h, q)
 
-  pub register_law : (remembered : Option ℕ) → Rule remembered (register wakes remembered owner w t)
-  register_law None = seat_parked names None owner w t refl (insert (record { waker = w; owner = owner }) t) (insert_law (record { waker = w; owner = owner }) t s)
-  register_law (Some slot) = renew_parked slot (own (Some slot) owner t) refl
+  pub renewed_step : (wakes : W → W → Bool) (w : W) (r : Result (Entry W) Refusal) (t' : Table (Entry W)) → wakes old w ≡ false → ◌≡◌ {A = Result (Entry W) Refusal × Table (Entry W)} (r, t') (replace slot (record { waker = w; owner = owner }) t) → ◌≡◌ {A = Result (Registered W) Refusal × Table (Entry W)} (Ok (record { slot = slot; replaced = Some old }), t') (register wakes (Some slot) owner w t)
+  renewed_step wakes w r t' q e =
+      rw (h, q) (ap (λ (x : Result (Entry W) Refusal × Table (Entry W)). (Ok (record { slot = slot; replaced = Some old }), x.1)) e)
 
-  pub parked_after : (remembered : Option ℕ) (r : Result (Registered W) Refusal) (t' : Table (Entry W)) → ◌≡◌ {A = Result (Registered W) Refusal × Table (Entry W)} (r, t') (register wakes remembered owner w t) → Parked names remembered owner w t r t'
-  parked_after remembered r t' e = subst (λ (x : Result (Registered W) Refusal × Table (Entry W)). Rule remembered x) (sym e) (register_law remembered)
-
--- a wait that leaves is parked no more, and no other slot is touched
-module _ {W : Type 0} (owner : Wait) (t : Table (Entry W)) (s : Sound t) where
-  abbrev After : Option ℕ → Option W × Table (Entry W) → Type 0
-  After remembered x = Left remembered owner t x.0 x.1
-
-  removed : (slot : ℕ) (w : W) (e : Entry W) → own (Some slot) owner t ≡ Some w → get slot t ≡ Some e → After (Some slot) (Some w, (remove slot t).1)
-  removed slot w e h k =
-      let t' = (remove_at slot (Some e) t).1 in
-      let q : remove slot t ≡ remove_at slot (Some e) t = ap (λ c. remove_at slot c t) k in
-      let f = freed_after slot e t t' s (sym q) in
+  -- a wait that leaves is parked no more, and no other slot is touched
+  pub left : (r : Result (Entry W) Refusal) (t' : Table (Entry W)) → Removed slot t r t' → Left (Some slot) owner t (Some old) t'
+  left (Ok e) t' k =
       let y = eq-eqb slot slot refl in
-      let none : get slot t' ≡ None = rw y at (f.reads slot) in
-      let rest : (i : ℕ) → (Some slot ≡ Some i → ⊥) → get i t' ≡ get i t = λ i ne. let z = ne_eqb i slot (λ d. ne (ap Some (sym d))) in rw z at (f.reads i) in
-      subst (λ (x : Result (Entry W) Refusal × Table (Entry W)). After (Some slot) (Some w, x.1)) (sym q)
-      (record { was = sym h; gone = ap (own_of owner) none; others = rest })
+      let none : get slot t' ≡ None = rw y at (k.reads slot) in
+      record {
+        was = sym h;
+        gone = ap (own_of owner) none;
+        others = λ i ne. let z = ne_eqb i slot (λ d. ne (ap Some (sym d))) in rw z at (k.reads i);
+      }
+  left (Err e) t' k = absurd (not_vacant owner (get slot t) old h k.1)
 
-  leave_law : (slot : ℕ) (o : Option W) → own (Some slot) owner t ≡ o → After (Some slot) (leave slot o t)
-  leave_law slot None h = record { was = sym h; gone = h; others = λ q ne. refl }
-  leave_law slot (Some w) h = let e = own_held owner (get slot t) w h in removed slot w e.0 h e.1
-
-  pub unregister_law : (remembered : Option ℕ) → After remembered (unregister remembered owner t)
-  unregister_law None = record { was = refl; gone = refl; others = λ q ne. refl }
-  unregister_law (Some slot) = leave_law slot (own (Some slot) owner t) refl
-
-  pub left_after : (remembered : Option ℕ) (r : Option W) (t' : Table (Entry W)) → ◌≡◌ {A = Option W × Table (Entry W)} (r, t') (unregister remembered owner t) → Left remembered owner t r t'
-  left_after remembered r t' e = subst (λ (x : Option W × Table (Entry W)). After remembered x) (sym e) (unregister_law remembered)
-
--- soundness
-seated-table : {W : Type 0} (x : Result ℕ Refusal × Table (Entry W)) → (seated x).1 ≡ x.1
-seated-table (Ok slot, t) = refl
-seated-table (Err e, t) = refl
-
-module _ {W : Type 0} (t : Table (Entry W)) (s : Sound t) where
-  seat_sound : (owner : Wait) (w : W) → Sound (seated (insert (record { waker = w; owner = owner }) t)).1
-  seat_sound owner w =
-      subst (λ (u : Table (Entry W)). Sound u) (sym (seated-table (insert (record { waker = w; owner = owner }) t))) (insert_sound (record { waker = w; owner = owner }) t s)
-
-  renew_sound : (wakes : W → W → Bool) (slot : ℕ) (owner : Wait) (w : W) (o : Option W) → Sound (renew wakes slot owner w o t).1
-  renew_sound wakes slot owner w None = seat_sound owner w
-  renew_sound wakes slot owner w (Some old) =
-      cond_both {A = Result (Registered W) Refusal × Table (Entry W)} (wakes old w) (Ok (record { slot = slot; replaced = None }), t) (Ok (record { slot = slot; replaced = Some old }), (replace slot (record { waker = w; owner = owner }) t).1) (λ (x : Result (Registered W) Refusal × Table (Entry W)). Sound x.1)
-      (λ e. s)
-      (λ e. replace_sound slot (record { waker = w; owner = owner }) t s)
-
-  pub register_sound : (wakes : W → W → Bool) (remembered : Option ℕ) (owner : Wait) (w : W) → Sound (register wakes remembered owner w t).1
-  register_sound wakes None owner w = seat_sound owner w
-  register_sound wakes (Some slot) owner w = renew_sound wakes slot owner w (own (Some slot) owner t)
-
-  leave_sound : (slot : ℕ) (o : Option W) → Sound (leave slot o t).1
-  leave_sound slot None = s
-  leave_sound slot (Some w) = remove_sound slot t s
-
-  pub unregister_sound : (remembered : Option ℕ) (owner : Wait) → Sound (unregister remembered owner t).1
-  unregister_sound None owner = s
-  unregister_sound (Some slot) owner = leave_sound slot (own (Some slot) owner t)
-
-  pub wake_all_sound : (names : W → ℕ) (known : ℕ) (due : Due) → Sound (wake_all names known due t).1
-  wake_all_sound names known due =
-      cond_both {A = Due × Table (Entry W)} (eqb (occupied t.cells) 0) (due, t) (each_rung names known due (values t.cells), emptied t) (λ (x : Due × Table (Entry W)). Sound x.1)
-      (λ e. s)
-      (λ e. fresh_sound (Entry W) (length t.cells))
+-- one that is not parked stays as it is
+pub stays : {W : Type 0} (remembered : Option ℕ) (owner : Wait) (t : Table (Entry W)) → own remembered owner t ≡ None → (◌≡◌ {A = Option W × Table (Entry W)} (None, t) (unregister remembered owner t)) × Left remembered owner t None t
+stays None owner t h = (refl, record { was = refl; gone = refl; others = λ q ne. refl })
+stays (Some slot) owner t h = (rw h, record { was = sym h; gone = h; others = λ q ne. refl })

@@ -1,30 +1,26 @@
 -- What each write to an arena keeps, and which step of the table it is.
-use Rattle.std.proofs.Common.{◌≡◌, ℕ, zero, suc, ◌+◌, ◌-◌, ◌<◌, ◌≤◌, true, false, cond, ltb, List, [], ◌∷◌, length, get_or, take, set, is_some, Some, None, Ok, Err, Option, Result, sym, refl, ap, ◌∙◌, arith, length-set}
+use Rattle.std.proofs.Common.{◌≡◌, ℕ, Bool, zero, suc, ◌+◌, ◌-◌, ◌<◌, ◌≤◌, true, false, cond, ltb, List, [], ◌∷◌, length, set, is_some, Some, None, Ok, Err, Option, Result, sym, refl, ap, arith, length-set}
+use Rattle.std.specs.Bool.{then_some}
+use Rattle.std.specs.Option.{option_or}
 use lib.Seq.{take-set-lt}
-use Rattle.std.proofs.lemmas.List.{length-take-le, get_or-take}
+use Rattle.std.proofs.lemmas.List.{length-take-le}
 use Rattle.std.proofs.lemmas.Bool.{lt-ltb, le-ltb}
 use Rattle.arena.specs.declared.slot.Slot.{Slot}
 use Rattle.arena.specs.declared.slot.Slot.TheVariants.{Occupied, Vacant}
 use Rattle.bells.specs.declared.refusal.Refusal.{Refusal}
 use Rattle.bells.specs.declared.refusal.Refusal.TheVariants.{TableFull}
-use Rattle.arena.specs.declared.arena.Arena.{Arena}
+use Rattle.arena.specs.declared.arena.Arena.TheInside.{Inside}
 use Rattle.arena.specs.Cells.{content, cells, link_at, is_vacant, vacant_at, chain, linked}
-use Rattle.arena.specs.Arenas.{shown, table_of}
-use Rattle.arena.specs.Table.{vacancy_at, Table, occupied, replace_at, remove_at, insert_at}
+use Rattle.arena.specs.Arenas.{shown, table_of, Whole}
+use Rattle.arena.specs.Table.{get, vacancy_at, Table, occupied, replace_at, remove_at, insert_at}
 use Rattle.arena.proofs.Counts.{at, one, occupied-set, all_some}
 use Rattle.arena.proofs.Places.{Start, start, started, at_past, length-cells, cells-set, cells-next, occupied-absent, chain-set, linked-set, no_more, some_more}
 
--- the slots that the table has are as many as its capacity, and a write to one is a write to them
-pub length-shown : {T : Type 0} {N : ℕ} (a : Arena T N) → length (shown a) ≡ a.capacity
-length-shown a = length-take-le a.capacity a.slots (omega (arith, a.sized.0, a.sized.1))
+-- the slots that the table has are as many as its capacity
+pub length-shown : {T : Type 0} {N : ℕ} (a : Inside T N) → Whole a → length (shown a) ≡ a.capacity
+length-shown a w = length-take-le a.capacity a.slots.all (omega (arith, w.sized.0, w.sized.1))
 
-pub shown-set : {T : Type 0} {N : ℕ} (a : Arena T N) (p : ℕ) (s : Slot T) → p < a.capacity → take a.capacity (set a.slots p s) ≡ set (shown a) p s
-shown-set a p s h = take-set-lt a.capacity a.slots p s h
-
-pub shown_read : {T : Type 0} {N : ℕ} (a : Arena T N) (p : ℕ) (x : Slot T) → p < a.capacity → x ≡ get_or a.slots p x → x ≡ get_or (shown a) p x
-shown_read a p x h e = e ∙ sym (get_or-take a.capacity a.slots p x h)
-
--- the invariant of an arena
+-- the invariant of an arena, of the slots up to the capacity
 pub record Kept {T : Type 0} (ss : List (Slot T)) (h : Option ℕ) (u l : ℕ) : Type 0 where
   pub low : l ≤ u
   pub high : u ≤ length ss
@@ -205,54 +201,67 @@ module _ {T : Type 0} (ss : List (Slot T)) (h : Option ℕ) (u l : ℕ) (ok : Ke
       let t : ltb u (length ss) ≡ false = le-ltb u (length ss) k in
       rw (d, length-cells, t)
 
-pub kept : {T : Type 0} {N : ℕ} (a : Arena T N) → Kept (shown a) a.head a.used a.len
-kept a = record { low = a.within.0; high = rw length-shown a.within.1; chained = a.chained; counted = a.counted }
+module _ {T : Type 0} {N : ℕ} (a : Inside T N) (w : Whole a) where
+  pub kept : Kept (shown a) a.head a.used a.len
+  kept = record { low = w.within.0; high = rw (length-shown a w) w.within.1; chained = w.chained; counted = w.counted }
 
--- what the ghost fields say, from the invariant
-abbrev pub Whole : {T : Type 0} → ℕ → List (Slot T) → ℕ → Option ℕ → ℕ → ℕ → Type 0
-Whole N ss cap h u l =
-    record {
-      within : (l ≤ u) × (u ≤ cap);
-      sized : (cap ≤ N) × (length ss ≡ N);
-      chained : linked (u - l) u (take cap ss) h ≡ true;
-      counted : occupied (cells u (take cap ss)) ≡ l;
-    }
+  -- the fields of an arena as its table has them
+  pub length_cells : length (table_of a).cells ≡ a.capacity
+  unfolding table_of
+  length_cells = omega (arith, length-shown a w, length-cells a.used (shown a))
 
-pub whole : {T : Type 0} {N : ℕ} (a : Arena T N) (p : ℕ) (s : Slot T) (h : Option ℕ) (u l : ℕ) → p < a.capacity → Kept (set (shown a) p s) h u l → Whole N (set a.slots p s) a.capacity h u l
-whole a p s h u l below k =
-    let q = shown-set a p s below in
-    let n : length (set (shown a) p s) ≡ a.capacity = rw length-set (length-shown a) in
-    record {
-      within = (k.low, omega (arith, k.high));
-      sized = (a.sized.0, rw length-set a.sized.1);
-      chained = rw q k.chained;
-      counted = rw q k.counted;
-    }
+  pub len_counts : occupied (table_of a).cells ≡ a.len
+  unfolding table_of
+  len_counts = w.counted
 
--- a place that holds something is below the capacity
-pub held_below : {T : Type 0} {N : ℕ} (a : Arena T N) (p : ℕ) (v : T) → at (cells a.used (shown a)) p ≡ Some v → p < a.capacity
-held_below a p v e = let k = held (shown a) a.used p v e in omega (arith, k.inside, length-shown a)
+  -- an arena with other slots
+  abbrev pub with : List (Slot T) → Option ℕ → ℕ → ℕ → Inside T N
+  with ss h u l = record { slots = record { all = ss }; capacity = a.capacity; head = h; used = u; len = l }
 
-pub reuse_below : {T : Type 0} {N : ℕ} (a : Arena T N) (p : ℕ) → a.head ≡ Some p → p < a.capacity
-reuse_below a p e = let k = reuse_inside (shown a) a.head a.used a.len (kept a) p e in omega (arith, k, length-shown a)
+  pub whole : (p : ℕ) (s : Slot T) (ss : List (Slot T)) (h : Option ℕ) (u l : ℕ) → ss ≡ set a.slots.all p s → p < a.capacity → Kept (set (shown a) p s) h u l → Whole (with ss h u l)
+  whole p s ss h u l e below k =
+      let q = take-set-lt a.capacity a.slots.all p s below in
+      let n : length (set (shown a) p s) ≡ a.capacity = rw length-set (length-shown a w) in
+      record {
+        within = (k.low, omega (arith, k.high));
+        sized = (w.sized.0, rw (e, length-set) w.sized.1);
+        chained = rw (e, q) k.chained;
+        counted = rw (e, q) k.counted;
+      }
 
--- the fields of an arena as its table has them
-pub used_within : {T : Type 0} {N : ℕ} (a : Arena T N) → a.used ≤ length (table_of a).cells
-unfolding table_of
-used_within a = omega (arith, length-shown a, length-cells a.used (shown a), a.within.1)
+  pub table_with : (p : ℕ) (s : Slot T) (ss : List (Slot T)) (h : Option ℕ) (u l : ℕ) → ss ≡ set a.slots.all p s → p < a.capacity → table_of (with ss h u l) ≡ table (set (shown a) p s) h u (u - l)
+  unfolding table_of
+  table_with p s ss h u l e below = let q = take-set-lt a.capacity a.slots.all p s below in rw (e, q)
 
-pub len_counts : {T : Type 0} {N : ℕ} (a : Arena T N) → occupied (table_of a).cells ≡ a.len
-unfolding table_of
-len_counts a = a.counted
+  -- a place that holds something is below the capacity
+  pub held_below : (p : ℕ) (v : T) → get p (table_of a) ≡ Some v → p < a.capacity
+  unfolding table_of
+  held_below p v e = let k = held (shown a) a.used p v e in omega (arith, k.inside, length-shown a w)
+
+  pub freed_below : (p : ℕ) → a.head ≡ Some p → p < a.capacity
+  freed_below p e = let k = reuse_inside (shown a) a.head a.used a.len kept p e in omega (arith, k, length-shown a w)
+
+pub chosen : {W : Type 0} (b : Bool) (w : W) → then_some b w ≡ cond b (Some w) None
+chosen true w = refl
+chosen false w = refl
 
 -- the place that the next value takes
-pub vacancy_freed : {T : Type 0} (n u : ℕ) (ss : List (Slot T)) (h : Option ℕ) (p m : ℕ) → h ≡ Some p → linked n u ss h ≡ true → Some p ≡ vacancy_at (chain n ss h) u m
-vacancy_freed zero u ss None p m e l = let z : ◌≡◌ {A = ℕ} 0 1 = cc in absurd (omega arith)
-vacancy_freed zero u ss (Some q) p m e l = let z : ◌≡◌ {A = ℕ} 0 1 = cc in absurd (omega arith)
-vacancy_freed (suc n) u ss None p m e l = let z : ◌≡◌ {A = ℕ} 0 1 = cc in absurd (omega arith)
-vacancy_freed (suc n) u ss (Some q) p m e l = sym e
+pub vacancy_or : {T : Type 0} (n u : ℕ) (ss : List (Slot T)) (h : Option ℕ) (m : ℕ) → linked n u ss h ≡ true → vacancy_at (chain n ss h) u m ≡ option_or h (then_some (ltb u m) u)
+vacancy_or zero u ss None m l = sym (chosen (ltb u m) u)
+vacancy_or zero u ss (Some q) m l = absurd (let z : ◌≡◌ {A = ℕ} 0 1 = cc in omega arith)
+vacancy_or (suc n) u ss None m l = absurd (let z : ◌≡◌ {A = ℕ} 0 1 = cc in omega arith)
+vacancy_or (suc n) u ss (Some q) m l = refl
 
-pub vacancy_unused : {T : Type 0} (n : ℕ) (ss : List (Slot T)) (h : Option ℕ) (u m : ℕ) → h ≡ None → vacancy_at (chain n ss h) u m ≡ cond (ltb u m) (Some u) None
-vacancy_unused zero ss h u m e = refl
-vacancy_unused (suc n) ss None u m e = refl
-vacancy_unused (suc n) ss (Some p) u m e = let z : ◌≡◌ {A = ℕ} 0 1 = cc in absurd (omega arith)
+pub or_head : (h o : Option ℕ) (p q : ℕ) → option_or h o ≡ Some p → h ≡ Some q → h ≡ Some p
+or_head None o p q e f = absurd (let z : ◌≡◌ {A = ℕ} 0 1 = cc in omega arith)
+or_head (Some x) o p q e f = e
+
+pub or_fresh : (h : Option ℕ) (b : Bool) (u p : ℕ) → option_or h (then_some b u) ≡ Some p → h ≡ None → (p ≡ u) × (b ≡ true)
+or_fresh None true u p e f = (cc, refl)
+or_fresh None false u p e f = absurd (let z : ◌≡◌ {A = ℕ} 0 1 = cc in omega arith)
+or_fresh (Some x) b u p e f = absurd (let z : ◌≡◌ {A = ℕ} 0 1 = cc in omega arith)
+
+pub or_full : (h : Option ℕ) (b : Bool) (u : ℕ) → option_or h (then_some b u) ≡ None → (h ≡ None) × (b ≡ false)
+or_full None true u e = absurd (let z : ◌≡◌ {A = ℕ} 0 1 = cc in omega arith)
+or_full None false u e = (refl, refl)
+or_full (Some x) b u e = absurd (let z : ◌≡◌ {A = ℕ} 0 1 = cc in omega arith)

@@ -1,34 +1,56 @@
--- The values of a table, handed out place by place.
-use Rattle.std.proofs.Common.{◌≡◌, ℕ, zero, suc, ◌+◌, ◌<◌, ◌≤◌, List, [], ◌∷◌, ◌++◌, length, get_or, take, drop, set, Some, None, fold, Option, sym, refl, ap, ◌∙◌, arith}
-use Rattle.std.proofs.lemmas.List.{drop_more, take_more_set}
-use Rattle.arena.specs.declared.slot.Slot.{Slot}
-use Rattle.arena.specs.Cells.{cells}
-use Rattle.arena.specs.Table.{values}
+-- The values that slots hold, handed out one by one.
+use Rattle.std.proofs.Common.{◌≡◌, ℕ, ◌+◌, ◌<◌, ◌≤◌, List, [], ◌∷◌, ◌++◌, map, length, get_or, take, drop, set, filter_map, true, false, ltb, ◌↔◌, Some, None, Ok, Err, fold, Option, Result, sym, refl, ap, append_assoc, arith, length-set}
+use Rattle.std.proofs.lemmas.List.{drop_more, take_more_set, take-append-drop, drop-set-lt}
+use Rattle.std.proofs.lemmas.List.{length_push}
+use Rattle.std.proofs.lemmas.List.Elements.{filter_map-append}
+use Rattle.std.proofs.lemmas.Bool.{lt-ltb, le-ltb}
+use Rattle.std.specs.Result.{IsOk, OnOk, OnErr, MatchResult}
+use Rattle.bells.specs.declared.refusal.Refusal.{Refusal}
+use Rattle.bells.specs.declared.refusal.Refusal.TheVariants.{TableFull}
+use Rattle.arena.specs.Table.{values, filled}
+use Rattle.arena.specs.Batches.{push}
 
-module _ {T S : Type 0} (f : S → T → S) (s s' r : S) (cs : List (Option T)) (i : ℕ) (o : Option T) (h : i < length cs) (e : o ≡ get_or cs i None) (inv : fold f s (values (drop i cs)) ≡ r) where
-  pub values_some : (v : T) → o ≡ Some v → s' ≡ f s v → fold f s' (values (drop (i + 1) cs)) ≡ r
-  values_some v d q =
-      let x : fold f s (values (drop i cs)) ≡ fold f (f s v) (values (drop (i + 1) cs)) = rw (drop_more cs i None h, ← e, d) in
-      rw q (sym x ∙ inv)
-
-  pub values_none : o ≡ None → s' ≡ s → fold f s' (values (drop (i + 1) cs)) ≡ r
-  values_none d q =
-      let x : fold f s (values (drop i cs)) ≡ fold f s (values (drop (i + 1) cs)) = rw (drop_more cs i None h, ← e, d) in
-      rw q (sym x ∙ inv)
-
-pub values_past : {T : Type 0} (u i : ℕ) (ss : List (Slot T)) → u ≤ i → values (drop i (cells u ss)) ≡ []
-values_past zero zero [] h = refl
-values_past zero zero (s ∷ ss) h = values_past zero zero ss h
-values_past (suc u) zero ss h = absurd (omega arith)
-values_past u (suc i) [] h = refl
-values_past zero (suc i) (s ∷ ss) h = values_past zero i ss (omega arith)
-values_past (suc u) (suc i) (s ∷ ss) h = values_past u i ss (omega arith)
-
-values-push : {T : Type 0} (cs : List (Option T)) (v : T) → values (cs ++ Some v ∷ []) ≡ values cs ++ v ∷ []
-values-push [] v = refl
-values-push (None ∷ cs) v = values-push cs v
-values-push (Some w ∷ cs) v = ap (λ vs. w ∷ vs) (values-push cs v)
+pub values_filter : {T : Type 0} (cs : List (Option T)) → filter_map (λ c. c) cs ≡ values cs
+values_filter [] = refl
+values_filter (None ∷ cs) = values_filter cs
+values_filter (Some v ∷ cs) = ap (λ vs. v ∷ vs) (values_filter cs)
 
 -- one more at the end of a batch
-pub pushed_more : {T : Type 0} (cs : List (Option T)) (i : ℕ) (v : T) → i < length cs → values (take (i + 1) (set cs i (Some v))) ≡ values (take i cs) ++ v ∷ []
-pushed_more cs i v h = rw (take_more_set cs i (Some v) h) (values-push (take i cs) v)
+pub values-push : {T : Type 0} (cs : List (Option T)) (v : T) → values (cs ++ Some v ∷ []) ≡ values cs ++ v ∷ []
+values-push cs v = rw (← values_filter (cs ++ Some v ∷ []), ← values_filter cs) (filter_map-append (λ c. c) cs (Some v ∷ []))
+
+-- how many were handed out, and where they went
+abbrev pub pour : {T : Type 0} → ℕ × List (Option T) → T → ℕ × List (Option T)
+pour s v = (s.0 + 1, set s.1 s.0 (Some v))
+
+poured_count : {T : Type 0} (vs : List T) (s : ℕ × List (Option T)) → (fold pour s vs).0 ≡ s.0 + length vs
+poured_count [] s = omega arith
+poured_count (v ∷ vs) s = omega (arith, poured_count vs (pour s v))
+
+poured_from : {T : Type 0} (vs : List T) (n : ℕ) (into : List (Option T)) → n + length vs ≤ length into → (fold pour (n, into) vs).1 ≡ take n into ++ (map Some vs ++ drop (n + length vs) into)
+poured_from [] n into h = let e : n + 0 ≡ n = omega arith in rw e (sym (take-append-drop n into))
+poured_from (v ∷ vs) n into h =
+    let room : n < length into = omega arith in
+    let more : n + 1 + length vs ≤ length (set into n (Some v)) = rw length-set (omega arith) in
+    let past : n < n + 1 + length vs = omega arith in
+    let e : n + length (v ∷ vs) ≡ n + 1 + length vs = omega arith in
+    let k = poured_from vs (n + 1) (set into n (Some v)) more in
+    rw (e, k, take_more_set into n (Some v) room, drop-set-lt (n + 1 + length vs) into n (Some v) past) (append_assoc (take n into) (Some v ∷ []) (map Some vs ++ drop (n + 1 + length vs) into))
+
+pub poured_all : {T : Type 0} (vs : List T) (into : List (Option T)) → length vs ≤ length into → (fold pour (0, into) vs).1 ≡ filled vs into
+poured_all vs into h = let e : 0 + length vs ≡ length vs = omega arith in rw e at (poured_from vs 0 into (omega arith))
+
+-- while a value is left, so is room for it
+pub poured_room : {X T : Type 0} (h : X → Option T) (xs : List X) (i n : ℕ) (into start : List (Option T)) (x : X) (v : T) → i < length xs → x ≡ get_or xs i x → h x ≡ Some v → ◌≡◌ {A = ℕ × List (Option T)} (fold pour (n, into) (filter_map h (drop i xs))) (fold pour (0, start) (filter_map h xs)) → n < length (filter_map h xs)
+poured_room h xs i n into start x v k e d inv =
+    let y : length (filter_map h (drop i xs)) ≡ length (filter_map h (drop (i + 1) xs)) + 1 = rw (drop_more xs i x k, ← e, d) (omega arith) in
+    omega (arith, poured_count (filter_map h (drop i xs)) (n, into), poured_count (filter_map h xs) (0, start), ap (λ s. s.0) inv)
+
+-- a push to a batch that holds a waker in each slot
+pub pushed : {W E : Type 0} (slots : ℕ) (w : W) (cs cs' : List (Option W)) (r : Result (Unit {0}) E) (r' : Result (Unit {0}) Refusal) → length (values cs) ≡ length cs → (IsOk r ↔ (length cs < slots)) → OnErr r (length cs ≡ slots) → OnOk r (cs' ≡ cs ++ Some w ∷ []) → OnErr r (cs' ≡ cs) → MatchResult r (λ x. r' ≡ Ok x) (λ e. r' ≡ Err TableFull) → (length (values cs') ≡ length cs') × (◌≡◌ {A = Result (Unit {0}) Refusal × List W} (r', values cs') (push slots w (values cs)))
+pushed slots w cs cs' (Ok x) r' full room out ok err m =
+    let t : ltb (length (values cs)) slots ≡ true = lt-ltb _ _ (rw full (room.0 refl)) in
+    (rw (ok, values-push, length_push, length_push) (ap (λ n. n + 1) full), rw (m, ok, t, values-push))
+pushed slots w cs cs' (Err e) r' full room out ok err m =
+    let t : ltb (length (values cs)) slots ≡ false = le-ltb _ _ (rw full (omega (arith, out))) in
+    (rw err full, rw (m, err, t))

@@ -1,16 +1,15 @@
--- The table that an arena stands for. Assumes nothing.
-use Rattle.std.specs.Prelude.{ℕ, ◌-◌, List, take, Ok, Err, Result}
-use Rattle.bells.specs.declared.refusal.Refusal.{Refusal}
+-- The table that an arena stands for, and what is true of every arena. Assumes nothing.
+use Rattle.std.specs.Prelude.{◌≡◌, ℕ, ◌-◌, ◌≤◌, true, List, length, take}
 use Rattle.arena.specs.declared.slot.Slot.{Slot}
-use Rattle.arena.specs.declared.arena.Arena.{Arena}
-use Rattle.arena.specs.Cells.{cells, chain}
-use Rattle.arena.specs.Table.{Table}
+use Rattle.arena.specs.declared.arena.Arena.TheInside.{Inside}
+use Rattle.arena.specs.Cells.{cells, chain, linked}
+use Rattle.arena.specs.Table.{Table, occupied}
 
 -- the slots up to the capacity
-abbrev pub shown : {T : Type 0} {N : ℕ} → Arena T N → List (Slot T)
-shown a = take a.capacity a.slots
+abbrev pub shown : {T : Type 0} {N : ℕ} → Inside T N → List (Slot T)
+shown a = take a.capacity a.slots.all
 
-unfoldable pub table_of : {T : Type 0} {N : ℕ} → Arena T N → Table T
+unfoldable pub table_of : {T : Type 0} {N : ℕ} → Inside T N → Table T
 table_of a =
     record {
       cells = cells a.used (shown a);
@@ -18,6 +17,13 @@ table_of a =
       used = a.used;
     }
 
-abbrev pub opened_of : {T : Type 0} {N : ℕ} → Result (Arena T N) Refusal → Result (Table T) Refusal
-opened_of (Ok a) = Ok (table_of a)
-opened_of (Err e) = Err e
+-- what holds between the fields of every arena
+pub record Whole {T : Type 0} {N : ℕ} (a : Inside T N) : Type 0 where
+  -- no more values than used places, and no more of these than places
+  pub within : (a.len ≤ a.used) × (a.used ≤ a.capacity)
+  -- the places are slots
+  pub sized : (a.capacity ≤ N) × (length a.slots.all ≡ N)
+  -- links from `head` lead through all vacant places below `used`
+  pub chained : linked (a.used - a.len) a.used (shown a) a.head ≡ true
+  -- `len` counts the values
+  pub counted : occupied (cells a.used (shown a)) ≡ a.len

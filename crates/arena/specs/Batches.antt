@@ -1,12 +1,7 @@
 -- Batches of wakers, in pushed order. Assumes nothing.
-use Rattle.std.specs.Prelude.{ℕ, Bool, cond, List, [], ◌∷◌, ◌++◌, length, take, Ok, Err, Result, nat_le, nat_lt}
+use Rattle.std.specs.Prelude.{ℕ, Bool, cond, List, [], ◌∷◌, ◌++◌, length, Ok, Err, Result, nat_le, nat_lt}
 use Rattle.bells.specs.declared.refusal.Refusal.{Refusal}
 use Rattle.bells.specs.declared.refusal.Refusal.TheVariants.{TableFull}
-use Rattle.arena.specs.declared.batch.WakerBatch.{WakerBatch}
-use Rattle.arena.specs.Table.{values}
-
-abbrev pub batch_of : {W : Type 0} {M : ℕ} → WakerBatch W M → List W
-batch_of b = values (take b.len b.wakers)
 
 -- one waker more, unless all slots are used
 abbrev pub push : {W : Type 0} → ℕ → W → List W → Result (Unit {0}) Refusal × List W

@@ -6,4 +6,3 @@ pub mod Waits
 pub mod Ringing
 pub mod Batches
 pub mod Wakers
-pub mod Sets

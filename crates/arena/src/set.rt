@@ -1,24 +1,36 @@
 // Waker sets: an entry for each parked wait.
-ghost use Rattle.std.specs.Prelude.{◌≡◌, Some};
-ghost use Rattle.arena.specs.Arenas.{table_of};
-ghost use Rattle.arena.specs.Sets.{entries_of};
+ghost use Rattle.std.specs.Prelude.{◌≡◌};
 ghost use Rattle.arena.specs.Table.{occupied};
-ghost use Rattle.arena.specs.Wakers.{own as owns, seat as seats, register as registers, unregister as unregisters, wake_all as wakes_all, Parked, Left, Woken};
+ghost use Rattle.arena.specs.Sound.{Sound, Complete};
+ghost use Rattle.arena.specs.Wakers.{own as owns, register as registers, unregister as unregisters, wake_all as wakes_all, Parked, Left, Woken};
 
 use super::arena::Arena;
-use super::batch::WakerBatch;
+use super::batch::{SPILL, WakerBatch};
 use super::wait::{Entry, Wait};
 use bells::{Bell, Refusal, Waker};
+use std::marker::Model;
+
+// As many waits are parked at once, at most.
+const ENTRIES: usize = 1024;
 
 #[derive(Drop)]
 pub struct WakerSet<W> {
-    entries: Arena<Entry<W>, 1024>,
-    // of no meaning between calls, and held here to be at hand for a wake
-    batch: WakerBatch<W, 32>,
+    entries: Arena<Entry<W>, ENTRIES>,
+    // The batch means nothing between calls, and is held here to be at hand for a wake.
+    batch: WakerBatch<W, SPILL>,
+}
+
+impl<W> Model for WakerSet<W> {
+    ghost use Rattle.arena.specs.Table.{Table};
+    ghost use Rattle.arena.specs.declared.wait.Entry.{Entry};
+
+    ghost Value = { Table (Entry W) };
+
+    ghost view = { λ s. s.entries };
 }
 
 // The slot that the wait is to remember, and the waker that its new one replaced.
-#[derive(Clone, Copy)]
+#[derive(Clone, Copy, PartialEq, Eq, Debug)]
 pub struct Registered<W> {
     pub slot: usize,
     pub replaced: Option<W>,
@@ -26,124 +38,78 @@ pub struct Registered<W> {
 
 impl<W: Waker + Drop + Copy> WakerSet<W> {
     // A set with the arena's entries and slots.
-    pub fn new(entries: Arena<Entry<W>, 1024>) -> WakerSet<W>
-        ensures { entries_of result ≡ table_of entries }
+    pub fn new(entries: Arena<Entry<W>, ENTRIES>) -> WakerSet<W>
+        ensures { result ≡ entries }
     {
         WakerSet {
             entries,
-            batch: WakerBatch::new([None; 32]),
+            batch: WakerBatch::new([None; SPILL]),
         }
     }
 
     // How many waits are parked.
     pub fn len(&self) -> usize
-        ensures { result ≡ occupied (entries_of self.now).cells }
+        ensures count { result ≡ occupied self.now.cells }
+        ensures sound { Sound self.now }
+        ensures complete { Complete self.now }
     {
         self.entries.len()
     }
 
-    // The waker of the wait's own entry, if that stands in the slot.
-    fn own_at(&self, slot: usize, owner: Wait) -> Option<W>
-        ensures { result ≡ owns (Some slot) owner (entries_of self.now) }
-    {
-        match self.entries.get(slot) {
-            Some(entry) => {
-                if entry.owner.is(owner) {
-                    Some(entry.waker)
-                } else {
-                    None
-                }
-            }
-            None => None,
-        }
-    }
-
-    // The waker of the wait, if it is parked.
+    // The waker of the wait, if it is parked. The slot that it remembers stands in its own table, and so comes beside whose it is.
     pub fn own(&self, remembered: Option<usize>, owner: Wait) -> Option<W>
-        ensures { result ≡ owns remembered owner (entries_of self.now) }
+        ensures { result ≡ owns remembered owner self.now }
     {
-        match remembered {
-            Some(slot) => self.own_at(slot, owner),
-            None => None,
-        }
-    }
-
-    // A new entry.
-    fn seat(&mut self, owner: Wait, waker: W) -> Result<Registered<W>, Refusal>
-        ensures { (result, entries_of self.new) ≡ seats owner waker (entries_of self.old) }
-    {
-        match self.entries.insert(Entry { waker, owner }) {
-            Ok(slot) => Ok(Registered {
-                slot,
-                replaced: None,
-            }),
-            Err(_) => Err(Refusal::NoSlot),
-        }
-    }
-
-    // A new entry, or another waker in the one that stands, unless the two wake the same task.
-    fn seat_or_renew(
-        &mut self,
-        remembered: Option<usize>,
-        owner: Wait,
-        waker: W,
-    ) -> Result<Registered<W>, Refusal>
-        ensures { (result, entries_of self.new) ≡ registers W.Waker.wakes remembered owner waker (entries_of self.old) }
-    {
-        let Some(slot) = remembered else {
-            return self.seat(owner, waker);
-        };
-        let Some(old) = self.own_at(slot, owner) else {
-            return self.seat(owner, waker);
-        };
-        if old.will_wake(&waker) {
-            return Ok(Registered {
-                slot,
-                replaced: None,
-            });
-        }
-        let _ = self.entries.replace(slot, Entry { waker, owner });
-        Ok(Registered {
-            slot,
-            replaced: Some(old),
-        })
+        let entry = self.entries.get(remembered?)?;
+        (entry.owner == owner).then_some(entry.waker)
     }
 
     // Parks the wait, or renews the waker of one that is parked and answers the one before.
+    // Where the two wake the same task, the one that stands stays.
     pub fn register(
         &mut self,
         remembered: Option<usize>,
         owner: Wait,
         waker: W,
     ) -> Result<Registered<W>, Refusal>
-        ensures step { (result, entries_of self.new) ≡ registers W.Waker.wakes remembered owner waker (entries_of self.old) }
-        ensures law { Parked W.Waker.names remembered owner waker (entries_of self.old) result (entries_of self.new) }
+        ensures step { (result, self.new) ≡ registers W.waking.wakes remembered owner waker self.old }
+        ensures law { Parked W.waking.target remembered owner waker self.old result self.new }
     {
-        self.seat_or_renew(remembered, owner, waker)
-    }
-
-    // The waker of a parked wait, whose entry leaves the set.
-    fn leave(&mut self, remembered: Option<usize>, owner: Wait) -> Option<W>
-        ensures { (result, entries_of self.new) ≡ unregisters remembered owner (entries_of self.old) }
-    {
-        let slot = remembered?;
-        let old = self.own_at(slot, owner)?;
-        let _ = self.entries.remove(slot);
-        Some(old)
+        let (Some(slot), Some(old)) = (remembered, self.own(remembered, owner)) else {
+            // It is not parked yet.
+            let slot = self
+                .entries
+                .insert(Entry { waker, owner })
+                .map_err(|_| Refusal::NoSlot)?;
+            return Ok(Registered {
+                slot,
+                replaced: None,
+            });
+        };
+        let replaced = if old.will_wake(&waker) {
+            None
+        } else {
+            let _ = self.entries.replace(slot, Entry { waker, owner });
+            Some(old)
+        };
+        Ok(Registered { slot, replaced })
     }
 
     // Takes a parked wait's entry out, and answers its waker.
     pub fn unregister(&mut self, remembered: Option<usize>, owner: Wait) -> Option<W>
-        ensures step { (result, entries_of self.new) ≡ unregisters remembered owner (entries_of self.old) }
-        ensures law { Left remembered owner (entries_of self.old) result (entries_of self.new) }
+        ensures step { (result, self.new) ≡ unregisters remembered owner self.old }
+        ensures law { Left remembered owner self.old result self.new }
     {
-        self.leave(remembered, owner)
+        let slot = remembered?;
+        let old = self.own(Some(slot), owner)?;
+        let _ = self.entries.remove(slot);
+        Some(old)
     }
 
     // Takes all entries out and rings their tasks by rising slot, a batch at a time. An empty set stays as it is.
     pub fn wake_all<B: Bell>(&mut self, bell: &mut B)
-        ensures step { (B.Bell.meaning bell.new, entries_of self.new) ≡ wakes_all W.Waker.names B.Bell.known (B.Bell.meaning bell.old) (entries_of self.old) }
-        ensures woken { Woken W.Waker.names B.Bell.known (B.Bell.meaning bell.old) (entries_of self.old) (B.Bell.meaning bell.new) }
+        ensures step { (B.meaning bell.new, self.new) ≡ wakes_all W.waking.target B.KNOWN (B.meaning bell.old) self.old }
+        ensures woken { Woken W.waking.target B.KNOWN (B.meaning bell.old) self.old (B.meaning bell.new) }
     {
         if self.len() == 0 {
             return;

@@ -2,44 +2,26 @@
 use super::SLOTS;
 use super::call::Call;
 use arena::Arena;
+use bells::Refusal;
 use std::io;
 
-fn insert(rt: &HostRuntime, arena: &mut Arena<usize, SLOTS>, value: usize) -> io::Result<()> {
-    match arena.insert(value) {
-        Ok(place) => println!(rt; "insert {value} {place}"),
-        Err(_) => println!(rt; "insert {value} refused"),
+fn print_answer(rt: &HostRuntime, call: Call, answer: Result<usize, Refusal>) -> io::Result<()> {
+    match answer {
+        Ok(number) => println!(rt; "{call} {number}"),
+        Err(_) => println!(rt; "{call} refused"),
     }
 }
 
-fn get(rt: &HostRuntime, arena: &Arena<usize, SLOTS>, place: usize) -> io::Result<()> {
-    match arena.get(place) {
-        Some(value) => println!(rt; "get {place} {value}"),
-        None => println!(rt; "get {place} none"),
-    }
-}
-
-fn remove(rt: &HostRuntime, arena: &mut Arena<usize, SLOTS>, place: usize) -> io::Result<()> {
-    match arena.remove(place) {
-        Ok(value) => println!(rt; "remove {place} {value}"),
-        Err(_) => println!(rt; "remove {place} refused"),
-    }
-}
-
-fn take_all(rt: &HostRuntime, arena: &mut Arena<usize, SLOTS>) -> io::Result<()> {
+fn take_all(rt: &HostRuntime, arena: &mut Arena<usize, SLOTS>, call: Call) -> io::Result<()> {
     let mut values = [None; SLOTS];
-    match arena.take_all(&mut values) {
-        Ok(count) => {
-            print!(rt; "take_all")?;
-            for value in values.iter().take(count) {
-                match value {
-                    Some(value) => print!(rt; " {value}")?,
-                    None => print!(rt; " none")?,
-                }
-            }
-            println!(rt; "")
-        }
-        Err(_) => println!(rt; "take_all refused"),
+    if arena.take_all(&mut values).is_err() {
+        return println!(rt; "{call} refused");
     }
+    print!(rt; "{call}")?;
+    for value in values.iter().flatten() {
+        print!(rt; " {value}")?;
+    }
+    println!(rt; "")
 }
 
 pub fn answer_call(
@@ -48,9 +30,12 @@ pub fn answer_call(
     call: Call,
 ) -> io::Result<()> {
     match call {
-        Call::Insert(value) => insert(rt, arena, value),
-        Call::Get(place) => get(rt, arena, place),
-        Call::Remove(place) => remove(rt, arena, place),
-        Call::TakeAll => take_all(rt, arena),
+        Call::Insert(value) => print_answer(rt, call, arena.insert(value)),
+        Call::Remove(place) => print_answer(rt, call, arena.remove(place)),
+        Call::Get(place) => match arena.get(place) {
+            Some(value) => println!(rt; "{call} {value}"),
+            None => println!(rt; "{call} none"),
+        },
+        Call::TakeAll => take_all(rt, arena, call),
     }
 }

@@ -7,7 +7,7 @@ mod call;
 
 use answer::answer_call;
 use arena::{Arena, Slot};
-use call::read_call;
+use call::Call;
 use std::io;
 
 const SLOTS: usize = 64;
@@ -18,9 +18,9 @@ const CAPACITY: usize = 48;
 fn replay(rt: &HostRuntime, arena: &mut Arena<usize, SLOTS>) -> io::Result<()> {
     for line in rt.lines(rt.alloc()) {
         let line = line?;
-        match read_call(line.as_str()) {
-            Some(call) => answer_call(rt, arena, call)?,
-            None => println!(rt; "? {line}")?,
+        match line.parse::<Call>() {
+            Ok(call) => answer_call(rt, arena, call)?,
+            Err(_) => println!(rt; "? {line}")?,
         }
     }
     Ok(())

@@ -1,4 +1,3 @@
 pub mod DueLaws
-mod Lines
 mod OrderLaws
 mod Queues

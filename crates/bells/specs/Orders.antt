@@ -1,10 +1,5 @@
 -- Due tasks in the order in which they were rung. Assumes nothing.
-use Rattle.std.specs.Prelude.{ℕ, Bool, true, false, cond, not, ◌&&◌, ◌||◌, List, [], ◌∷◌, ◌++◌, take, filter, ◌==◌, nat_lt}
-use Rattle.bells.specs.declared.line.Line.{Line}
-
--- the tasks of a line, the first in it first
-abbrev pub listed : Line → List ℕ
-listed line = take line.len line.tasks
+use Rattle.std.specs.Prelude.{ℕ, Bool, true, false, cond, not, ◌&&◌, ◌||◌, List, [], ◌∷◌, ◌++◌, filter, ◌==◌, nat_lt}
 
 -- whether a task is among others
 abbrev pub among : List ℕ → ℕ → Bool

@@ -8,8 +8,8 @@ pub trait Bell: Sized {
     // How many tasks the kind knows.
     const KNOWN: usize;
 
-    // The same number for clauses, since code that is generic in the bell knows no fact about the constant: it asks `knows`.
-    ghost known: { ℕ };
+    // The same, for clauses.
+    ghost KNOWN: { ℕ };
 
     // The tasks that are due.
     ghost meaning: { Self → Due };
@@ -20,12 +20,15 @@ pub trait Bell: Sized {
 
     // Whether the kind knows the task.
     fn knows(task: usize) -> bool
-        ensures { result ≡ nat_lt task known };
+        ensures { result ≡ nat_lt task KNOWN }
+    {
+        task < Self::KNOWN
+    }
 
     // Makes the task due and answers yes, if it is known; else changes nothing and answers no.
     fn ring(&mut self, task: usize) -> bool
-        ensures answer { result ≡ nat_lt task known }
-        ensures after { meaning self.new ≡ rung known task (meaning self.old) };
+        ensures answer { result ≡ nat_lt task KNOWN }
+        ensures after { meaning self.new ≡ rung KNOWN task (meaning self.old) };
 
     // Whether the task is due.
     fn due(&self, task: usize) -> bool
@@ -33,7 +36,7 @@ pub trait Bell: Sized {
 
     // How many tasks are due.
     fn tally(&self) -> usize
-        ensures { result ≡ how_many known (meaning self.now) };
+        ensures { result ≡ how_many KNOWN (meaning self.now) };
 
     // Takes the task alone out, and answers whether it was due.
     fn collect(&mut self, task: usize) -> bool
@@ -41,5 +44,5 @@ pub trait Bell: Sized {
         ensures after { meaning self.new ≡ collected task (meaning self.old) };
 
     // Only known tasks are due.
-    ghost within: { (b : Self) (t : ℕ) → is_due (meaning b) t ≡ true → t < known };
+    ghost within: { (b : Self) (t : ℕ) → is_due (meaning b) t ≡ true → t < KNOWN };
 }

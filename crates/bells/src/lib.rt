@@ -3,7 +3,7 @@
 
 mod bell;
 mod board;
-mod line;
+mod flags;
 mod queue;
 mod refusal;
 mod task_waker;
@@ -12,6 +12,7 @@ mod waker;
 
 pub use bell::Bell;
 pub use board::Board;
+pub use flags::Flags;
 pub use queue::Queue;
 pub use refusal::Refusal;
 pub use task_waker::TaskWaker;

@@ -1,93 +1,88 @@
 // The queue: a bell that keeps the due ones of 1,024 tasks in the order in which they were rung.
 ghost use Rattle.std.specs.Prelude.{◌≡◌, ℕ, true, [], length, nat_lt};
 ghost use Rattle.bells.specs.Due.{is_due, none_due, rung, collected, how_many, flagged};
-ghost use Rattle.bells.specs.Orders.{listed, among, once, queued, without};
+ghost use Rattle.bells.specs.Orders.{among, once, queued, without};
 ghost use Rattle.bells.specs.Flags.{flagged_within};
 
 use super::bell::Bell;
-use super::line::Line;
+use super::flags::Flags;
+use arrayvec::ArrayVec;
 
 const TASKS: usize = 1024;
 
-// The line holds the due tasks; the flags tell at once who stands in it.
+// The line holds the due tasks; the flags tell at once who stands in it. No `impl Model`, as for the flags.
 #[derive(Drop)]
 pub struct Queue {
-    flags: [bool; TASKS],
-    line: Line,
-    ghost sized: { length flags ≡ 1024 },
+    flags: Flags<TASKS>,
+    line: ArrayVec<usize, TASKS>,
     // A flag is raised exactly if its task stands in line, and none stands there twice.
-    ghost matched: { (t : ℕ) → is_due (flagged flags) t ≡ among (listed line) t },
-    ghost single: { once (listed line) ≡ true },
+    ghost matched: { (t : ℕ) → is_due (flagged flags.raised) t ≡ among line.items t },
+    ghost single: { once line.items ≡ true },
     // So there is room for each task whose flag is down.
-    ghost counted: { how_many 1024 (flagged flags) ≡ length (listed line) },
+    ghost counted: { how_many 1024 (flagged flags.raised) ≡ length line.items },
 }
 
 impl Queue {
     // The due tasks, the first rung first.
     pub fn in_order(&self) -> &[usize]
-        ensures { result.now ≡ listed self.now.line }
+        ensures { result.now ≡ self.now.line.items }
     {
-        self.line.tasks()
+        self.line.as_slice()
     }
 }
 
 impl Bell for Queue {
     const KNOWN: usize = TASKS;
 
-    ghost known = { 1024 };
+    ghost KNOWN = { 1024 };
 
-    ghost meaning = { λ q. flagged q.flags };
+    ghost meaning = { λ q. flagged q.flags.raised };
 
-    ghost within = { λ q t due. flagged_within q.flags 1024 t q.sized due };
+    ghost within = { λ q t due. flagged_within q.flags.raised 1024 t q.flags.sized due };
 
     fn new() -> Queue
-        ensures none { flagged result.flags ≡ none_due }
-        ensures order { listed result.line ≡ [] }
+        ensures none { flagged result.flags.raised ≡ none_due }
+        ensures order { result.line.items ≡ [] }
     {
         Queue {
-            flags: [false; TASKS],
-            line: Line::new(),
+            flags: Flags::new(),
+            line: ArrayVec::new(),
         }
-    }
-
-    fn knows(task: usize) -> bool {
-        task < Self::KNOWN
     }
 
     // A task that was not due comes last in line.
     fn ring(&mut self, task: usize) -> bool
         ensures answer { result ≡ nat_lt task 1024 }
-        ensures after { flagged self.new.flags ≡ rung 1024 task (flagged self.old.flags) }
-        ensures order { listed self.new.line ≡ queued 1024 task (listed self.old.line) }
+        ensures after { flagged self.new.flags.raised ≡ rung 1024 task (flagged self.old.flags.raised) }
+        ensures order { self.new.line.items ≡ queued 1024 task self.old.line.items }
     {
         if !Self::knows(task) {
             return false;
         }
-        if !self.flags[task] {
-            self.flags[task] = true;
+        if !self.flags.due(task) {
+            self.flags.ring(task);
             self.line.push(task);
         }
         true
     }
 
     fn due(&self, task: usize) -> bool {
-        Self::knows(task) && self.flags[task]
+        self.flags.due(task)
     }
 
     fn tally(&self) -> usize {
-        self.in_order().len()
+        self.line.len()
     }
 
     // The others keep their order.
     fn collect(&mut self, task: usize) -> bool
-        ensures answer { result ≡ is_due (flagged self.old.flags) task }
-        ensures after { flagged self.new.flags ≡ collected task (flagged self.old.flags) }
-        ensures order { listed self.new.line ≡ without task (listed self.old.line) }
+        ensures answer { result ≡ is_due (flagged self.old.flags.raised) task }
+        ensures after { flagged self.new.flags.raised ≡ collected task (flagged self.old.flags.raised) }
+        ensures order { self.new.line.items ≡ without task self.old.line.items }
     {
-        let was = self.due(task);
+        let was = self.flags.collect(task);
         if was {
-            self.flags[task] = false;
-            self.line.take_out(task);
+            self.line.retain(|other| *other != task);
         }
         was
     }

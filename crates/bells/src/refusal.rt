@@ -3,7 +3,7 @@ ghost use Rattle.std.specs.Prelude.{◌≡◌};
 ghost use Rattle.bells.specs.Refusals.{number_of};
 
 // Each case is one reason, known to the outside by its number.
-#[derive(Clone, Copy)]
+#[derive(Clone, Copy, PartialEq, Eq, Debug)]
 pub enum Refusal {
     // The phaser is closed.
     Closed,
@@ -27,11 +27,11 @@ pub enum Refusal {
     SizeOutside,
 }
 
-impl Refusal {
-    pub fn number(self) -> u64
-        ensures { result ≡ number_of self }
-    {
-        match self {
+impl From<Refusal> for u64 {
+    ghost from_gives = { λ refusal number. number ≡ number_of refusal };
+
+    fn from(refusal: Refusal) -> u64 {
+        match refusal {
             Refusal::Closed => 1,
             Refusal::CountOverflow => 2,
             Refusal::TableFull => 3,

@@ -1,2 +1,3 @@
 pub mod Lamps
 pub mod Lights
+pub mod Bytes

@@ -1,26 +1,21 @@
-// A waker that holds a task below 256.
-ghost use Rattle.std.specs.Prelude.{◌==◌};
-ghost use Rattle.std.proofs.lemmas.Bool.{eqb-true};
+// A waker that holds a task below 256: like the task waker, but made outside the crate of the trait, to try its laws there.
+ghost use Rattle.bells_model.specs.Bytes.{byte_waking};
 
 use bells::Waker;
 
-#[derive(Clone, Copy)]
+#[derive(Clone, Copy, PartialEq, Eq, Debug)]
 pub struct ByteWaker {
     pub task: u8,
 }
 
 impl Waker for ByteWaker {
-    ghost names = { λ w. w.task };
-
-    ghost wakes = { λ v w. (v.task == w.task) };
-
-    ghost same = { λ v w. eqb-true v.task w.task };
+    ghost waking = { byte_waking };
 
     fn target(&self) -> usize {
-        self.task as usize
+        usize::from(self.task)
     }
 
     fn will_wake(&self, other: &ByteWaker) -> bool {
-        self.task == other.task
+        self == other
     }
 }

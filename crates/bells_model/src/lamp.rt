@@ -12,7 +12,7 @@ pub struct Lamp {
 impl Bell for Lamp {
     const KNOWN: usize = 1;
 
-    ghost known = { 1 };
+    ghost KNOWN = { 1 };
 
     ghost meaning = { λ l. shining l.lit };
 
@@ -20,10 +20,6 @@ impl Bell for Lamp {
 
     fn new() -> Lamp {
         Lamp { lit: false }
-    }
-
-    fn knows(task: usize) -> bool {
-        task < Self::KNOWN
     }
 
     fn ring(&mut self, task: usize) -> bool {
@@ -39,7 +35,7 @@ impl Bell for Lamp {
     }
 
     fn tally(&self) -> usize {
-        if self.lit { 1 } else { 0 }
+        usize::from(self.lit)
     }
 
     fn collect(&mut self, task: usize) -> bool {

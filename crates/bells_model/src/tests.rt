@@ -38,12 +38,7 @@ fn stirred(seed: u64) -> u64 {
 fn position(due: &[usize], task: usize) -> Option<usize>
     ensures { IfSome result (λ i. i < length due.now) }
 {
-    for (i, other) in due.iter().enumerate() {
-        if *other == task {
-            return Some(i);
-        }
-    }
-    None
+    due.iter().position(|other| *other == task)
 }
 
 // One ring of the bell and of the list.
@@ -68,17 +63,12 @@ fn collect<B: Bell>(
     due: &mut Vec<usize>,
     task: usize,
 ) -> Result<(), Fail> {
-    match position(due.as_slice(), task) {
-        Some(i) => {
-            due.remove(i);
-            assert!(rt; bell.collect(task));
-            Ok(())
-        }
-        None => {
-            assert!(rt; !bell.collect(task));
-            Ok(())
-        },
+    let place = position(due.as_slice(), task);
+    if let Some(i) = place {
+        due.remove(i);
     }
+    assert!(rt; bell.collect(task) == place.is_some());
+    Ok(())
 }
 
 fn same<B: Bell>(rt: &impl Abort, bell: &B, due: &[usize]) {
@@ -144,23 +134,19 @@ fn every_task_may_be_due_at_once(rt: HostRuntime) {
 
 // Whether a waker was refused as of an unknown task.
 fn unknown<W: Waker + Drop>(made: Result<W, Refusal>) -> bool {
-    match made {
-        Ok(_) => false,
-        Err(refusal) => refusal.number() == 5,
-    }
+    made.err().map(u64::from) == Some(5)
 }
 
 // The target of a waker that was made.
 fn target<W: Waker + Drop>(made: Result<W, Refusal>) -> Option<usize> {
-    match made {
-        Ok(waker) => Some(waker.target()),
-        Err(_) => None,
-    }
+    made.ok().map(|waker| waker.target())
 }
 
 #[test]
 fn wakers_stay_in_their_ranges(rt: HostRuntime) {
-    assert!(rt; target(TaskWaker::new(65_535)) == Some(65_535) && unknown(TaskWaker::new(65_536)));
+    assert!(rt;
+        target(TaskWaker::try_from(65_535)) == Some(65_535) && unknown(TaskWaker::try_from(65_536))
+    );
     assert!(rt; target(VcpuWaker::new(511, 7, u32::MAX)) == Some(4095));
     assert!(rt; target(VcpuWaker::new(3, 2, 0)) == Some(26));
     assert!(rt; unknown(VcpuWaker::new(512, 0, 0)) && unknown(VcpuWaker::new(0, 8, 0)));
@@ -168,7 +154,7 @@ fn wakers_stay_in_their_ranges(rt: HostRuntime) {
 
 #[test]
 fn wakers_tell_each_other_apart(rt: HostRuntime) -> Result<(), Fail> {
-    let (Ok(a), Ok(b)) = (TaskWaker::new(7), TaskWaker::new(8)) else {
+    let (Ok(a), Ok(b)) = (TaskWaker::try_from(7), TaskWaker::try_from(8)) else {
         return Err(Fail::new("a task waker was refused"));
     };
     assert!(rt; a.will_wake(&a) && !a.will_wake(&b));

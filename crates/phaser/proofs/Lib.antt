@@ -1,3 +1,4 @@
 pub mod Refused
 pub mod Ways
 pub mod Meetings
+pub mod Layouts

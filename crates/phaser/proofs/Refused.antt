@@ -1,5 +1,7 @@
 -- What is refused leaves the parts as they were. Assumes nothing.
-use Rattle.std.proofs.Common.{◌≡◌, ℕ, Bool, true, false, cond, eqb, ltb, List, [], ◌∷◌, length, set, Some, None, Ok, Err, Option, Result, sym, refl, ap, subst}
+use Rattle.std.proofs.Common.{◌≡◌, ℕ, Bool, true, false, cond, eqb, ltb, List, [], ◌∷◌, length, set, Some, None, Ok, Err, Option, Result, sym, refl, ap, ◌∙◌, subst}
+use Rattle.std.specs.Result.{IsErrAnd}
+use Rattle.std.proofs.lemmas.Result.{err_from_is_err_and}
 use Rattle.bells.specs.declared.refusal.Refusal.{Refusal}
 use Rattle.bells.specs.Due.{Due}
 use Rattle.bells.specs.Kind.{Kind}
@@ -17,6 +19,12 @@ use Rattle.phaser.specs.Members.{kept, first_poll}
 abbrev pub Kept : {A X : Type 0} → X → Result A Refusal × X → Type 0
 Kept x (Ok a, y) = Unit {0}
 Kept x (Err e, y) = y ≡ x
+
+-- what the exit of a `?` answers
+pub passed : {A X : Type 0} {e : Refusal} {r : Result A Refusal} {x : X} {y : Result A Refusal × X} → IsErrAnd r (λ d. d ≡ e) → (Err e, x) ≡ y → (r, x) ≡ y
+passed {A = A} {X = X} {r = r} {x = x} is q =
+    let p = err_from_is_err_and r is in
+    ap (λ (s : Result A Refusal). (s, x)) (p.1 ∙ ap Err p.2) ∙ q
 
 kept-cond : {A X : Type 0} (x : X) (b : Bool) (y z : Result A Refusal × X) → Kept x y → Kept x z → Kept x (cond b y z)
 kept-cond x true y z h k = h

@@ -53,11 +53,11 @@ follow wakes w (Some place) x = followed place x (register wakes None (wait_of t
 
 abbrev pub meet : {W : Type 0} → Kind W → W → Meeting W → Result Met Refusal × Meeting W
 meet k w (b, fs, due) =
-    refuse UnknownTask (not (nat_lt (k.target w) k.known)) (b, fs, due)
+    refuse UnknownTask (not (nat_lt (k.waking.target w) k.known)) (b, fs, due)
     (refuse LastGeneration (leads b && b.generation == 2 ^ 64 - 1) (b, fs, due)
     (cond (leads b)
-    (led (b, fs, due) (wake_all k.target k.known due b.waiting))
-    (follow k.wakes w (vacancy fs) (b, fs, due))))
+    (led (b, fs, due) (wake_all k.waking.target k.known due b.waiting))
+    (follow k.waking.wakes w (vacancy fs) (b, fs, due))))
 
 -- attend: vacant, unknown task, no slot. Done where the follower's generation is over, which frees the place; else parked
 abbrev pub parked_in : {W : Type 0} → ℕ → ℕ → Barrier W × Table Follower → Result (Registered W) Refusal × Table (Entry W) → Result Attended Refusal × (Barrier W × Table Follower)
@@ -68,10 +68,10 @@ parked_in place generation x (Err e, set) = (Err e, x)
 abbrev pub attend_by : {W : Type 0} → Kind W → ℕ → W → Option Follower → Barrier W × Table Follower → Result Attended Refusal × (Barrier W × Table Follower)
 attend_by k place w None x = (Err Vacant, x)
 attend_by k place w (Some f) (b, fs) =
-    refuse UnknownTask (not (nat_lt (k.target w) k.known)) (b, fs)
+    refuse UnknownTask (not (nat_lt (k.waking.target w) k.known)) (b, fs)
     (cond (nat_lt f.generation b.generation)
     (Ok attended.Done, (b, (remove place fs).1))
-    (parked_in place f.generation (b, fs) (register k.wakes f.slot (wait_of table.Followers place) w b.waiting)))
+    (parked_in place f.generation (b, fs) (register k.waking.wakes f.slot (wait_of table.Followers place) w b.waiting)))
 
 abbrev pub attend : {W : Type 0} → Kind W → ℕ → W → Barrier W × Table Follower → Result Attended Refusal × (Barrier W × Table Follower)
 attend k place w x = attend_by k place w (get place x.1) x

@@ -108,6 +108,14 @@ leave k place x = leave_by k place tt (get place x.1) x
 
 -- ── arriving ──
 
+-- an arrival breaks the counts
+abbrev pub arrival_miscounts : Bool → Tally → Bool
+arrival_miscounts already c = c.registered == 0 || (not already && c.unarrived == 0)
+
+-- how many are unarrived after an arrival
+abbrev pub unarrived_after : Bool → Tally → Result ℕ Refusal
+unarrived_after already c = cond (arrival_miscounts already c) (Err Miscounted) (Ok (lowered already c.unarrived))
+
 -- arrive: vacant, in flight, closed, miscounted. A member that counts as arrived lowers nothing
 abbrev pub arrived : {W : Type 0} → ℕ → Table Member → Phaser W × Due → Result ℕ Refusal × Parts W Member
 arrived phase ms (p, due) = (Ok phase, (p, ms, due))
@@ -115,7 +123,7 @@ arrived phase ms (p, due) = (Ok phase, (p, ms, due))
 abbrev pub arrive_as : {W : Type 0} → Kind W → ℕ → Bool → Parts W Member → Result ℕ Refusal × Parts W Member
 arrive_as k place already (p, ms, due) =
     refuse Closed p.tally.closed (p, ms, due)
-    (refuse Miscounted (p.tally.registered == 0 || (not already && p.tally.unarrived == 0)) (p, ms, due)
+    (refuse Miscounted (arrival_miscounts already p.tally) (p, ms, due)
     (arrived p.tally.phase (replace place (Pending p.tally.phase) ms).1 (settle k (counted p.tally.registered (lowered already p.tally.unarrived) p) due)))
 
 abbrev pub arrive_by : {W : Type 0} → Kind W → ℕ → Option Member → Parts W Member → Result ℕ Refusal × Parts W Member
@@ -135,7 +143,7 @@ kept x due (Ok o, p) = (Ok o, (p, due))
 kept x due (Err e, p) = (Err e, x)
 
 abbrev pub after_arrival : {W : Type 0} → Kind W → ℕ → ℕ → W → Phaser W × Due → Phaser W × Due → Result Outcome Refusal × (Phaser W × Due)
-after_arrival k place phase w x (p, due) = kept x due (complete k.wakes phase None (wait_of table.Members place) w p)
+after_arrival k place phase w x (p, due) = kept x due (complete k.waking.wakes phase None (wait_of table.Members place) w p)
 
 abbrev pub first_poll : {W : Type 0} → Kind W → ℕ → W → Phaser W × Due → Result Outcome Refusal × (Phaser W × Due)
 first_poll k place w (p, due) =
@@ -167,13 +175,13 @@ abbrev pub poll_as : {W : Type 0} → Kind W → ℕ → W → Member → Parts 
 poll_as k place w Idle (p, ms, due) =
     polled_by place Idle p.tally.phase (p, ms, due) (first_poll k place w (p, due))
 poll_as k place w (Pending n) (p, ms, due) =
-    polled_by place (Pending n) n (p, ms, due) (beside due (complete k.wakes n None (wait_of table.Members place) w p))
+    polled_by place (Pending n) n (p, ms, due) (beside due (complete k.waking.wakes n None (wait_of table.Members place) w p))
 poll_as k place w (InFlight n slot) (p, ms, due) =
-    polled_by place (Pending n) n (p, ms, due) (beside due (complete k.wakes n (Some slot) (wait_of table.Members place) w p))
+    polled_by place (Pending n) n (p, ms, due) (beside due (complete k.waking.wakes n (Some slot) (wait_of table.Members place) w p))
 
 abbrev pub poll_by : {W : Type 0} → Kind W → ℕ → W → Option Member → Parts W Member → Result Polled Refusal × Parts W Member
 poll_by k place w None x = (Err Vacant, x)
-poll_by k place w (Some m) x = refuse UnknownTask (not (nat_lt (k.target w) k.known)) x (poll_as k place w m x)
+poll_by k place w (Some m) x = refuse UnknownTask (not (nat_lt (k.waking.target w) k.known)) x (poll_as k place w m x)
 
 abbrev pub poll : {W : Type 0} → Kind W → ℕ → W → Parts W Member → Result Polled Refusal × Parts W Member
 poll k place w x = poll_by k place w (get place x.1) x

@@ -1,11 +1,8 @@
--- What a phaser and a barrier are: plain records, and those that the code's parts stand for. Assumes nothing.
+-- What a phaser and a barrier are: plain records, and the counts as one. Assumes nothing.
 use Rattle.std.specs.Prelude.{ℕ, Bool}
 use Rattle.arena.specs.declared.wait.Entry.{Entry}
-use Rattle.arena.specs.Sets.{entries_of}
 use Rattle.arena.specs.Table.{Table}
 use Rattle.phaser.specs.declared.counts.Counts.{Counts}
-use Rattle.phaser.specs.declared.phaser.Phaser.{Phaser as PhaserPart}
-use Rattle.phaser.specs.declared.barrier.Barrier.{Barrier as BarrierPart}
 
 -- the phase, whether it is closed, how many members there are, and how many of them have not arrived in the phase
 pub record Tally : Type 0 where
@@ -28,9 +25,3 @@ pub record Barrier (W : Type 0) : Type 0 where
 
 abbrev pub tally_of : Counts → Tally
 tally_of c = record { phase = c.phase; closed = c.closed; registered = c.registered; unarrived = c.unarrived }
-
-abbrev pub phaser_of : {W : Type 0} → PhaserPart W → Phaser W
-phaser_of p = record { tally = tally_of p.counts; waiting = entries_of p.waiters }
-
-abbrev pub barrier_of : {W : Type 0} → BarrierPart W → Barrier W
-barrier_of b = record { n = b.n; generation = b.generation; arrived = b.arrived; waiting = entries_of b.waiters }

@@ -46,7 +46,7 @@ woken c (due, set) = (record { tally = c; waiting = set }, due)
 
 abbrev pub settle : {W : Type 0} → Kind W → Phaser W → Due → Phaser W × Due
 settle k p due =
-    cond (advances p.tally) (woken (moved_on p.tally) (wake_all k.target k.known due p.waiting)) (p, due)
+    cond (advances p.tally) (woken (moved_on p.tally) (wake_all k.waking.target k.known due p.waiting)) (p, due)
 
 -- the completion rule for an observed phase: ready with the present phase if the two differ, else closed if closed, else parked
 abbrev pub parked_by : {W : Type 0} → Tally → Result (Registered W) Refusal × Table (Entry W) → Result Outcome Refusal × Phaser W
@@ -65,4 +65,4 @@ marked c = record { phase = c.phase; closed = true; registered = c.registered; u
 
 abbrev pub close : {W : Type 0} → Kind W → Phaser W → Due → Phaser W × Due
 close k p due =
-    cond p.tally.closed (p, due) (woken (marked p.tally) (wake_all k.target k.known due p.waiting))
+    cond p.tally.closed (p, due) (woken (marked p.tally) (wake_all k.waking.target k.known due p.waiting))

@@ -31,8 +31,8 @@ looked place observed x (Err e, p) = (Err e, x)
 abbrev pub look_by : {W : Type 0} → Kind W → ℕ → W → Option Watcher → Phaser W × Table Watcher → Result Polled Refusal × (Phaser W × Table Watcher)
 look_by k place w None x = (Err Vacant, x)
 look_by k place w (Some v) x =
-    refuse UnknownTask (not (nat_lt (k.target w) k.known)) x
-    (looked place v.observed x (complete k.wakes v.observed v.slot (wait_of table.Watchers place) w x.0))
+    refuse UnknownTask (not (nat_lt (k.waking.target w) k.known)) x
+    (looked place v.observed x (complete k.waking.wakes v.observed v.slot (wait_of table.Watchers place) w x.0))
 
 abbrev pub look : {W : Type 0} → Kind W → ℕ → W → Phaser W × Table Watcher → Result Polled Refusal × (Phaser W × Table Watcher)
 look k place w x = look_by k place w (get place x.1) x

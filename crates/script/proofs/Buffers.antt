@@ -1,33 +1,15 @@
 -- A buffer that is written piece by piece. Assumes nothing.
-use Rattle.std.proofs.Common.{◌≡◌, ℕ, ◌+◌, ◌-◌, ◌^◌, ◌<◌, ◌≤◌, List, [], ◌∷◌, ◌++◌, length, take, drop, Some, None, codes, decimal, Option, sym, ap, ◌∙◌, append_assoc, append-nil, zero-add, arith}
-use borrow.Rule.Slice.PartMut.{put_mid}
-use Rattle.std.proofs.lemmas.List.{take_rest, drop_all, drop-drop, length-drop, length-append, length-take-le, take_at, drop_at}
+use Rattle.std.proofs.Common.{◌≡◌, ℕ, ◌+◌, ◌^◌, ◌<◌, ◌≤◌, List, [], ◌∷◌, ◌++◌, length, take, drop, Some, None, codes, decimal, Option, sym, ap, ◌∙◌, append_assoc, arith}
+use Rattle.std.proofs.lemmas.List.{drop-drop, length-append, length-take-le, take_at, drop_at}
 use Rattle.script.specs.declared.writer.Writer.{Writer}
 use Rattle.script.specs.Bytes.{line_feed, space}
 use Rattle.std.proofs.lemmas.Fmt.{length-decimal-le}
-use Rattle.station.specs.declared.answer.Answer.{Answer}
-use Rattle.station.specs.declared.answer.Answer.TheVariants as answer
-use Rattle.station.specs.Answers.{word_of, value_of, Below64}
+use Rattle.stations.specs.declared.answer.Answer.{Answer}
+use Rattle.stations.specs.Answers.{word_of, value_of, Below64}
 use Rattle.script.specs.declared.fault.Fault.{Fault}
-use Rattle.script.specs.declared.fault.Fault.TheVariants as fault
 use Rattle.script.specs.Faults.{fault_number}
 use Rattle.script.specs.Written.{overwritten, heading, value_text, answer_line, told, fault_line}
 use Rattle.script.specs.Writers.{Room, Appends}
-
--- what a write to the front of the rest makes of the buffer
-pub put_rest : (out text rest : List ℕ) (at : ℕ) → at ≤ length out → rest ≡ overwritten 0 text (take (length out - at) (drop at out)) → put_mid at (length out - at) out rest ≡ overwritten at text out
-put_rest out text rest at within is =
-    let none : drop (length out - at) (drop at out) ≡ [] = drop_all _ (drop at out) (omega (arith, length-drop at out)) in
-    ap (λ l. take at out ++ l)
-    (ap (λ l. rest ++ l) none ∙ append-nil rest ∙ is
-    ∙ ap (λ l. text ++ drop (0 + length text) l) (take_rest out at)
-    ∙ ap (λ n. text ++ drop n (drop at out)) (zero-add (length text))
-    ∙ ap (λ l. text ++ l) (drop-drop (length text) at out))
-
-pub length-overwritten : (at : ℕ) (text out : List ℕ) → at + length text ≤ length out → length (overwritten at text out) ≡ length out
-length-overwritten at text out fits =
-    let front : length (take at out) ≡ at = length-take-le at out (omega arith) in
-    omega (arith, length-append (take at out) (text ++ drop (at + length text) out), length-append text (drop (at + length text) out), length-drop (at + length text) out)
 
 -- one text after another is both
 pub overwritten_more : (at : ℕ) (a b out : List ℕ) → at + length a ≤ length out → overwritten (at + length a) b (overwritten at a out) ≡ overwritten at (a ++ b) out
@@ -57,13 +39,6 @@ appends_more a b w v u fits first second =
       same = second.same ∙ first.same;
     }
 
--- what is written lies within the buffer
-pub appends_within : (text : List ℕ) (w v : Writer) → w.len ≡ 0 → Appends text w v → v.len ≤ length w.out.now
-appends_within text w v start a =
-    let whole = length-append (take w.len w.out.now) (text ++ drop (w.len + length text) w.out.now) in
-    let part = length-append text (drop (w.len + length text) w.out.now) in
-    omega (arith, start, a.end, a.room, ap length a.bytes, whole, part)
-
 -- the six pieces of an answer line, one after another
 module _ (line : ℕ) (word : List ℕ) (value : Option ℕ) where
   pub length-answer_line : length (answer_line line word value) ≡ length (decimal line) + length word + length (value_text value) + 3
@@ -89,30 +64,14 @@ module _ (line : ℕ) (word : List ℕ) (value : Option ℕ) where
       (appends_more one (space ∷ []) w v₁ v₂ r₁ a b) c) d) e) f
 
 word_short : (a : Answer) → length (word_of a) ≤ 7
-word_short answer.Ok = omega arith
-word_short (answer.Place place) = omega arith
-word_short (answer.Number number) = omega arith
-word_short (answer.Ready phase) = omega arith
-word_short answer.Parked = omega arith
-word_short (answer.ParkedAt place) = omega arith
-word_short answer.Closed = omega arith
-word_short answer.None = omega arith
-word_short answer.Leader = omega arith
-word_short answer.Done = omega arith
-word_short answer.Yes = omega arith
-word_short answer.No = omega arith
-word_short (answer.Refused refusal) = omega arith
+word_short a = grind arith
 
 value_brief : (value : Option ℕ) → Below64 value → length (value_text value) ≤ 20
 value_brief (Some n) fits = length-decimal-le 20 n (omega arith) (omega arith) fits
 value_brief None fits = omega arith
 
 fault_small : (f : Fault) → fault_number f < 10 ^ 2
-fault_small fault.FirstLine = omega arith
-fault_small fault.UnknownCall = omega arith
-fault_small fault.Malformed = omega arith
-fault_small fault.Unfit = omega arith
-fault_small fault.OpenOrder = omega arith
+fault_small f = grind arith
 
 fault_digits : (f : Fault) → length (decimal (fault_number f)) ≤ 2
 fault_digits f = length-decimal-le 2 (fault_number f) (omega arith) (fault_small f) (omega (arith, fault_small f))

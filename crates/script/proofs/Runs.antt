@@ -1,25 +1,19 @@
 -- The run of a script, line by line. Assumes nothing.
-use Rattle.std.proofs.Common.{◌≡◌, ℕ, ◌+◌, ◌*◌, ◌^◌, ◌<◌, ◌≤◌, true, false, ◌&&◌, leb, List, [], ◌∷◌, ◌++◌, length, take, drop, Ok, Err, Result, sym, refl, ap, ◌∙◌, subst, append-nil, add-zero, arith, length-append, take-append-drop}
+use Rattle.std.proofs.Common.{◌≡◌, ℕ, ◌+◌, ◌*◌, ◌^◌, ◌<◌, ◌≤◌, true, false, List, [], ◌∷◌, ◌++◌, length, take, drop, Some, None, Ok, Err, Option, Result, Bool, Bor, sym, refl, ap, ◌∙◌, subst, append-nil, add-zero, arith, length-append, take-append-drop}
+use Rattle.std.specs.Option.{MatchOption, option_eq}
 use Rattle.std.specs.Str.{bytes_eq}
-use Rattle.std.proofs.lemmas.Bool.{le-leb, leb-true, and_parts, both_ways, cond-true, cond-false}
-use Rattle.station.specs.declared.answer.Answer.{Answer}
-use Rattle.station.specs.declared.answer.Answer.TheVariants as answer
+use Rattle.std.proofs.lemmas.Bool.{both_ways, cond-true, cond-false}
+use Rattle.stations.specs.declared.answer.Answer.{Answer}
+use Rattle.stations.specs.declared.answer.Answer.TheVariants as answer
 use Rattle.station.specs.Model.{Station}
 use Rattle.script.specs.declared.fault.Fault.{Fault}
 use Rattle.script.specs.declared.fault.Fault.TheVariants as fault
 use Rattle.script.specs.declared.writer.Writer.{Writer}
-use Rattle.script.specs.Bytes.{line_feed, count, lines, ended, Whole}
 use Rattle.script.specs.Requests.{request}
-use Rattle.script.specs.Runs.{fits, first_line, reply, and_then, answers, opening, from_opening, calls, body}
-use Rattle.script.specs.Written.{overwritten, heading, told, fault_line}
+use Rattle.script.specs.Runs.{first_line, reply, and_then, answers, opening, from_opening, calls, body}
+use Rattle.script.specs.Written.{overwritten, told, fault_line}
 use Rattle.script.specs.Writers.{Room, Appends}
 use Rattle.script.proofs.Buffers.{overwritten_more, appends_more, fault_line-within}
-use Rattle.script.proofs.Lines.{count-lines, lines_cut, Parted}
-
-pub fits_from : (script : List ℕ) (room n : ℕ) → length script ≤ 65536 → ended script ≡ true → n ≡ count line_feed script → leb (36 * n) room ≡ fits script room
-fits_from script room n short whole is =
-    ap (λ k. leb (36 * k) room) (is ∙ count-lines script)
-    ∙ sym (ap (λ b. b && (ended script && leb (36 * length (lines script)) room)) (le-leb _ _ short) ∙ ap (λ b. b && leb (36 * length (lines script)) room) whole)
 
 -- with `rest` written behind what is written now, all is written behind what was written at first
 pub record Left (rest all : List ℕ) (w v : Writer) : Type 0 where
@@ -50,92 +44,64 @@ left_none all w v left =
       same = left.same;
     }
 
--- so far the run has come: line `number` is the next, of the lines of `rest`
-pub record Underway (known : ℕ) (all : List ℕ) (w : Writer) (number : ℕ) (s : Station) (rest : List ℕ) (v : Writer) : Type 0 where
-  pub left : Left (answers known number s (lines rest)) all w v
-  pub whole : Whole rest
-  pub room : Room (36 * length (lines rest)) v
-  pub few : number + length rest ≤ 65539
+-- so far the run has come: i lines are answered, the third of the script and those after it, and `ls` are left
+pub record Underway (known : ℕ) (all : List ℕ) (w : Writer) (i : ℕ) (s : Station) (ls : List (List ℕ)) (v : Writer) : Type 0 where
+  pub left : Left (answers known (i + 3) s ls) all w v
+  pub room : Room (36 * length ls) v
+  pub few : i + length ls ≤ 65536
 
--- a turn, by the first line of what is left
-module _ (known : ℕ) (all : List ℕ) (w : Writer) (number : ℕ) (s : Station) (rest : List ℕ) (v : Writer) (h : Underway known all w number s rest v) (line more : List ℕ) (p : Parted rest line more) where
-  pub line_room : Room 36 v
-  line_room = omega (arith, h.room, p.fewer)
+pub underway_at : (known : ℕ) (all : List ℕ) (w : Writer) (i : ℕ) (s : Station) (ls : List (List ℕ)) (v : Writer) (j : ℕ) → j ≡ i → Underway known all w i s ls v → Underway known all w j s ls v
+underway_at known all w i s ls v j same h = subst (λ n. Underway known all w n s ls v) (sym same) h
 
-  pub line_few : number < 10 ^ 6
-  line_few = omega (arith, h.few)
-
-  now_left : (r : Result Answer Fault) (t : Station) → (r, t) ≡ reply known line s → Left (and_then number r (answers known (number + 1) t (lines more))) all w v
+-- a turn, by the first of the lines that are left
+module _ (known : ℕ) (all : List ℕ) (w : Writer) (i : ℕ) (s : Station) (ls : List (List ℕ)) (v : Writer) (h : Underway known all w i s ls v) (line : List ℕ) (more : List (List ℕ)) (cut : ls ≡ line ∷ more) where
+  now_left : (r : Result Answer Fault) (t : Station) → (r, t) ≡ reply known line s → Left (and_then (i + 3) r (answers known (i + 3 + 1) t more)) all w v
   now_left r t is =
       subst (λ l. Left l all w v)
-      (ap (answers known number s) p.both ∙ ap (λ x. and_then number x.0 (answers known (number + 1) x.1 (lines more))) (sym is))
+      (ap (answers known (i + 3) s) cut ∙ ap (λ x. and_then (i + 3) x.0 (answers known (i + 3 + 1) x.1 more)) (sym is))
       h.left
 
-  pub answered : (a : Answer) (t : Station) (u : Writer) → (Ok a, t) ≡ reply known line s → length (told number a) ≤ 36 → Appends (told number a) v u → Underway known all w (number + 1) t more u
-  answered a t u is small written =
+  pub answered : (a : Answer) (t : Station) (u : Writer) (j : ℕ) → j ≡ i + 1 → (Ok a, t) ≡ reply known line s → length (told (i + 3) a) ≤ 36 → Appends (told (i + 3) a) v u → Underway known all w j t more u
+  answered a t u j next is small written =
+      let last = left_more (told (i + 3) a) (answers known (i + 3 + 1) t more) all w v u (omega (arith, h.room, ap length cut, small)) (now_left (Ok a) t is) written in
       record {
-        left = left_more (told number a) (answers known (number + 1) t (lines more)) all w v u (omega (arith, line_room)) (now_left (Ok a) t is) written;
-        whole = p.whole;
-        room = omega (arith, h.room, p.fewer, small, written.end, written.room);
-        few = omega (arith, h.few, p.shorter);
+        left = subst (λ n. Left (answers known n t more) all w u) (omega (arith, next)) last;
+        room = omega (arith, h.room, ap length cut, small, written.end, written.room);
+        few = omega (arith, h.few, ap length cut, next);
       }
 
-  pub faulted : (f : Fault) (t : Station) (u : Writer) → (Err f, t) ≡ reply known line s → Appends (fault_line number f) v u → Appends all w u
+  pub fault_room : (f : Fault) → Room (length (fault_line (i + 3) f)) v
+  fault_room f =
+      let few : i + 3 < 10 ^ 6 = omega (arith, h.few, ap length cut) in
+      omega (arith, h.room, ap length cut, fault_line-within (i + 3) few f)
+
+  pub faulted : (f : Fault) (t : Station) (u : Writer) → (Err f, t) ≡ reply known line s → Appends (fault_line (i + 3) f) v u → Appends all w u
   faulted f t u is written =
       left_none all w u
-      (left_more (fault_line number f) [] all w v u (omega (arith, line_room, fault_line-within number line_few f)) (subst (λ l. Left l all w v) (sym (append-nil (fault_line number f))) (now_left (Err f) t is)) written)
+      (left_more (fault_line (i + 3) f) [] all w v u (fault_room f) (subst (λ l. Left l all w v) (sym (append-nil (fault_line (i + 3) f))) (now_left (Err f) t is)) written)
 
-pub all_answered : (known : ℕ) (all : List ℕ) (w : Writer) (number : ℕ) (s : Station) (rest : List ℕ) (v : Writer) → Underway known all w number s rest v → length rest ≡ 0 → Appends all w v
-all_answered known all w number s [] v h none = left_none all w v h.left
-all_answered known all w number s (x ∷ rest) v h none = absurd (omega arith)
-
-nothing : (w : Writer) → Appends [] w w
-nothing w = left_none [] w w (left_all [] w)
+pub all_answered : (known : ℕ) (all : List ℕ) (w : Writer) (i : ℕ) (s : Station) (ls : List (List ℕ)) (v : Writer) → Underway known all w i s ls v → ls ≡ [] → Appends all w v
+all_answered known all w i s ls v h none = left_none all w v (subst (λ l. Left (answers known (i + 3) s l) all w v) none h.left)
 
 -- the lines from the second on
-pub nothing_called : (known : ℕ) (text : List ℕ) (w : Writer) → length text ≡ 0 → Appends (calls known (lines text)) w w
-nothing_called known [] w none = nothing w
-nothing_called known (x ∷ text) w none = absurd (omega arith)
+pub called_open : (known : ℕ) (ls : List (List ℕ)) (line : List ℕ) (more : List (List ℕ)) → ls ≡ line ∷ more → (s : Station) (w v u : Writer) → Ok s ≡ opening (request line) → Room 36 w → length (told 2 answer.Ok) ≤ 36 → Appends (told 2 answer.Ok) w v → Appends (answers known 3 s more) v u → Appends (calls known ls) w u
+called_open known ls line more cut s w v u is room small first rest =
+    subst (λ l. Appends l w u)
+    (ap (λ o. from_opening known o more) is ∙ sym (ap (calls known) cut))
+    (appends_more (told 2 answer.Ok) (answers known 3 s more) w v u (omega arith) first rest)
 
-module _ (known : ℕ) (text line more : List ℕ) (p : Parted text line more) where
-  pub called_open : (s : Station) (w v u : Writer) → Ok s ≡ opening (request line) → Room 36 w → length (told 2 answer.Ok) ≤ 36 → Appends (told 2 answer.Ok) w v → Appends (answers known 3 s (lines more)) v u → Appends (calls known (lines text)) w u
-  called_open s w v u is room small first rest =
-      subst (λ l. Appends l w u)
-      (ap (λ o. from_opening known o (lines more)) is ∙ sym (ap (calls known) p.both))
-      (appends_more (told 2 answer.Ok) (answers known 3 s (lines more)) w v u (omega arith) first rest)
+-- what `next` gave, of the lines `ls`, and left
+abbrev pub Taken : List (List ℕ) → Option (Bor (List ℕ)) → List (List ℕ) → Type 0
+Taken ls r more = MatchOption r ((ls ≡ []) × (more ≡ [])) (λ x. ls ≡ x.now ∷ more)
 
-  pub called_fault : (f : Fault) (w v : Writer) → Err f ≡ opening (request line) → Appends (fault_line 2 f) w v → Appends (calls known (lines text)) w v
-  called_fault f w v is only =
-      subst (λ l. Appends l w v) (ap (λ o. from_opening known o (lines more)) is ∙ sym (ap (calls known) p.both)) only
+abbrev pub is_line : Option (Bor (List ℕ)) → Bor (List ℕ) → Bool
+is_line r y = option_eq (λ a b. bytes_eq a.now b.now) r (Some y)
 
--- what a script that fits has
-pub record Fitting (script : List ℕ) (room : ℕ) : Type 0 where
-  pub short : length script ≤ 65536
-  pub whole : ended script ≡ true
-  pub roomy : 36 * length (lines script) ≤ room
+module _ (known : ℕ) (ls more : List (List ℕ)) (y : Bor (List ℕ)) (is : y.now ≡ first_line) where
+  pub body_played : (r : Option (Bor (List ℕ))) → Taken ls r more → true ≡ is_line r y → body known ls ≡ calls known more
+  body_played (Some x) cut e = ap (body known) cut ∙ cond-true _ _ _ (sym (e ∙ ap (bytes_eq x.now) is))
+  body_played None cut e = absurd (both_ways _ refl (sym e))
 
-pub fitting : (script : List ℕ) (room : ℕ) → fits script room ≡ true → Fitting script room
-fitting script room is =
-    let h = and_parts (leb (length script) 65536) (ended script && leb (36 * length (lines script)) room) is in
-    let k = and_parts (ended script) (leb (36 * length (lines script)) room) h.1 in
-    record { short = leb-true _ _ h.0; whole = k.0; roomy = leb-true _ _ k.1 }
-
-pub ended_some : (text : List ℕ) → ended text ≡ true → 0 < length text
-ended_some [] e = absurd (both_ways false refl e)
-ended_some (x ∷ text) e = omega arith
-
-pub heading_room : (script : List ℕ) (room : ℕ) → Fitting script room → length heading ≤ room
-heading_room script room f = omega (arith, f.roomy, ap length (lines_cut script f.whole))
-
-module _ (known : ℕ) (script first more : List ℕ) (p : Parted script first more) (w v u : Writer) (room : Room (length heading) w) (headed : Appends heading w v) where
-  pub played : true ≡ bytes_eq first first_line → Appends (calls known (lines more)) v u → Appends (heading ++ body known (lines script)) w u
-  played is rest =
-      subst (λ l. Appends (heading ++ l) w u)
-      (sym (ap (body known) p.both ∙ cond-true (bytes_eq first first_line) (calls known (lines more)) (fault_line 1 fault.FirstLine) (sym is)))
-      (appends_more heading (calls known (lines more)) w v u room headed rest)
-
-  pub not_played : false ≡ bytes_eq first first_line → Appends (fault_line 1 fault.FirstLine) v u → Appends (heading ++ body known (lines script)) w u
-  not_played is rest =
-      subst (λ l. Appends (heading ++ l) w u)
-      (sym (ap (body known) p.both ∙ cond-false (bytes_eq first first_line) (calls known (lines more)) (fault_line 1 fault.FirstLine) (sym is)))
-      (appends_more heading (fault_line 1 fault.FirstLine) w v u room headed rest)
+  pub body_not_played : (r : Option (Bor (List ℕ))) → Taken ls r more → 0 < length ls → false ≡ is_line r y → body known ls ≡ fault_line 1 fault.FirstLine
+  body_not_played (Some x) cut some e = ap (body known) cut ∙ cond-false _ _ _ (sym (e ∙ ap (bytes_eq x.now) is))
+  body_not_played None cut some e = absurd (omega (arith, ap length cut.0))

@@ -1,5 +1,6 @@
 -- How a text of bytes is parted: at the first of some byte, and into lines. Assumes nothing.
-use Rattle.std.specs.Prelude.{◌≡◌, ℕ, ◌+◌, ◌<◌, Bool, true, false, cond, List, [], ◌∷◌, length, ◌==◌}
+use Rattle.std.specs.Prelude.{◌≡◌, ℕ, ◌-◌, ◌<◌, Bool, true, List, length, take, ◌==◌, count_by, slice_index_or}
+use Rattle.std.specs.List.{before_first, after_first, slice_split}
 
 -- a line feed ends a line; a space parts two fields
 abbrev pub line_feed : ℕ
@@ -10,34 +11,23 @@ space = 32
 
 -- what stands before the first b: all, where there is none
 abbrev pub before : ℕ → List ℕ → List ℕ
-before b [] = []
-before b (x ∷ xs) = cond (x == b) [] (x ∷ before b xs)
+before b xs = before_first (λ x. x == b) xs
 
 -- what stands after the first b: nothing, where there is none
 abbrev pub after : ℕ → List ℕ → List ℕ
-after b [] = []
-after b (x ∷ xs) = cond (x == b) xs (after b xs)
+after b xs = after_first (λ x. x == b) xs
 
 -- how often b comes
 abbrev pub count : ℕ → List ℕ → ℕ
-count b [] = 0
-count b (x ∷ xs) = cond (x == b) (count b xs + 1) (count b xs)
-
--- a byte more at the front of the first line
-abbrev pub longer : ℕ → List (List ℕ) → List (List ℕ)
-longer x [] = []
-longer x (line ∷ more) = (x ∷ line) ∷ more
+count b xs = count_by (λ x. x == b) xs
 
 -- the lines, each without the line feed that ends it; what follows the last line feed is no line
 abbrev pub lines : List ℕ → List (List ℕ)
-lines [] = []
-lines (x ∷ xs) = cond (x == line_feed) ([] ∷ lines xs) (longer x (lines xs))
+lines xs = take (count line_feed xs) (slice_split (λ x. x == line_feed) xs)
 
--- the last byte is a line feed
+-- the byte at the last place is a line feed; the empty text counts as having 0 there, which is none
 abbrev pub ended : List ℕ → Bool
-ended [] = false
-ended (last ∷ []) = last == line_feed
-ended (x ∷ y ∷ ys) = ended (y ∷ ys)
+ended xs = slice_index_or xs (length xs - 1) 0 == line_feed
 
 -- each byte belongs to a line
 abbrev pub Whole : List ℕ → Type 0

@@ -6,3 +6,4 @@ pub mod Requests
 pub mod Written
 pub mod Writers
 pub mod Runs
+pub mod Left

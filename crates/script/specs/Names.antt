@@ -1,5 +1,6 @@
 -- The names of calls, and what each call wants of its other fields. Assumes nothing.
-use Rattle.std.specs.Prelude.{ℕ, ◌-◌, ◌^◌, cond, List, [], ◌∷◌, Some, None, codes, Option}
+use Rattle.std.specs.Prelude.{ℕ, ◌-◌, ◌^◌, List, [], ◌∷◌, Some, None, codes, Option}
+use Rattle.std.specs.List.{find}
 use Rattle.std.specs.Str.{bytes_eq}
 use Rattle.script.specs.declared.name.Name.{Name}
 use Rattle.script.specs.declared.name.Name.TheVariants as name
@@ -20,13 +21,9 @@ abbrev pub names : List Name
 names =
     name.Open ∷ name.Close ∷ name.Phase ∷ name.IsClosed ∷ name.Registered ∷ name.Arrived ∷ name.Unarrived ∷ name.Generation ∷ name.Tally ∷ []
 
-abbrev pub called_in : List Name → List ℕ → Option Name
-called_in [] text = None
-called_in (n ∷ ns) text = cond (bytes_eq (text_of n) text) (Some n) (called_in ns text)
-
 -- the call that is named so
 abbrev pub called : List ℕ → Option Name
-called text = called_in names text
+called text = find (λ n. bytes_eq (text_of n) text) names
 
 -- of a field that the call uses, the largest number that it may hold; the others are to be dashes
 abbrev pub wanting : Option ℕ → Option ℕ → Option ℕ → Wants

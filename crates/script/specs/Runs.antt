@@ -1,13 +1,14 @@
 -- What the run of a script writes. Assumes nothing.
 use Rattle.std.specs.Prelude.{ℕ, ◌+◌, ◌*◌, Bool, cond, ◌&&◌, List, [], ◌∷◌, ◌++◌, length, Some, None, Ok, Err, codes, Option, Result, nat_le, nat_lt}
 use Rattle.std.specs.Str.{bytes_eq}
-use Rattle.station.specs.declared.answer.Answer.{Answer}
-use Rattle.station.specs.declared.answer.Answer.TheVariants as answer
+use Rattle.stations.specs.declared.answer.Answer.{Answer}
+use Rattle.stations.specs.declared.answer.Answer.TheVariants as answer
 use Rattle.station.specs.declared.call.Call.{Call}
 use Rattle.station.specs.declared.call.Call.TheVariants as call
 use Rattle.bells.specs.Due.{Due}
 use Rattle.station.specs.declared.whole.Station.{Station as Parts}
-use Rattle.station.specs.Model.{Station, station_of}
+use Rattle.station.specs.Model.{Station}
+use Rattle.station.specs.Parts.{station_of}
 use Rattle.station.specs.Rules.{opened}
 use Rattle.station.specs.Steps.{step}
 use Rattle.script.specs.declared.fault.Fault.{Fault}

@@ -1,7 +1,7 @@
 -- How answers are written. Assumes nothing.
 use Rattle.std.specs.Prelude.{ℕ, ◌+◌, List, [], ◌∷◌, ◌++◌, length, take, drop, Some, None, codes, decimal, Option}
-use Rattle.station.specs.declared.answer.Answer.{Answer}
-use Rattle.station.specs.Answers.{word_of, value_of}
+use Rattle.stations.specs.declared.answer.Answer.{Answer}
+use Rattle.stations.specs.Answers.{word_of, value_of}
 use Rattle.script.specs.declared.fault.Fault.{Fault}
 use Rattle.script.specs.Bytes.{line_feed, space}
 use Rattle.script.specs.Faults.{fault_number}

@@ -3,7 +3,7 @@ ghost use Rattle.std.specs.Prelude.{◌≡◌};
 ghost use Rattle.script.specs.Faults.{fault_number};
 
 // Each case is known to the outside by its number.
-#[derive(Clone, Copy)]
+#[derive(Clone, Copy, PartialEq, Eq, Debug)]
 pub enum Fault {
     // The first line is not the heading of a script.
     FirstLine,
@@ -17,11 +17,11 @@ pub enum Fault {
     OpenOrder,
 }
 
-impl Fault {
-    pub fn number(self) -> u64
-        ensures { result ≡ fault_number self }
-    {
-        match self {
+impl From<Fault> for u64 {
+    ghost from_gives = { λ fault number. number ≡ fault_number fault };
+
+    fn from(fault: Fault) -> u64 {
+        match fault {
             Fault::FirstLine => 11,
             Fault::UnknownCall => 12,
             Fault::Malformed => 13,

@@ -2,17 +2,17 @@
 #![tactic(auto)]
 
 mod bytes;
-mod exports;
 mod fault;
 mod field;
+mod lines;
 mod name;
 mod request;
 mod runner;
 mod writer;
 
-pub use exports::{station_run_board, station_run_queue};
 pub use fault::Fault;
 pub use field::Field;
+pub use lines::LONGEST;
 pub use name::{Name, Wants};
 pub use request::Request;
 pub use runner::{report, run};

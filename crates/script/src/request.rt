@@ -1,5 +1,6 @@
 // What a line asks for.
-ghost use Rattle.std.specs.Prelude.{◌≡◌};
+ghost use Rattle.std.specs.Prelude.{◌≡◌, IfErr};
+ghost use Rattle.std.specs.Result.{result_ok};
 ghost use Rattle.script.specs.Fields.{field_of};
 ghost use Rattle.script.specs.Requests.{taken_from, named_by, request};
 
@@ -9,7 +10,8 @@ use super::field::Field;
 use super::name::Name;
 
 // A call with its numbers, 0 in the fields that it does not use.
-#[derive(Clone, Copy)]
+// 0 and no Option, so that each call is one row of what it wants, and the reader has no code of its own for any.
+#[derive(Clone, Copy, PartialEq, Eq, Debug)]
 pub struct Request {
     pub name: Name,
     pub place: u64,
@@ -21,55 +23,45 @@ pub struct Request {
 fn taken(field: Field, most: Option<u64>) -> Result<u64, Fault>
     ensures { result ≡ taken_from most (field_of field.entry) }
 {
-    let Some(most) = most else {
-        return match field {
-            Field::Dash => Ok(0),
-            _ => Err(Fault::Malformed),
-        };
-    };
-    let Field::Number(n) = field else {
-        return Err(Fault::Malformed);
-    };
-    if n > most {
-        Err(Fault::Malformed)
-    } else {
-        Ok(n)
+    match (field, most) {
+        (Field::Dash, None) => Ok(0),
+        (Field::Number(n), Some(most)) if n <= most => Ok(n),
+        _ => Err(Fault::Malformed),
     }
 }
 
 // The call that the first field names.
-fn named(field: Field) -> Option<Name>
-    ensures { result ≡ named_by (field_of field.entry) }
+fn named(field: Field) -> Result<Name, Fault>
+    ensures name { result_ok result ≡ named_by (field_of field.entry) }
+    ensures fault { IfErr result (λ f. f ≡ Fault.UnknownCall) }
 {
     match field {
-        Field::Name(text) => Name::find(text),
-        _ => None,
+        Field::Name(text) => Name::try_from(text),
+        _ => Err(Fault::UnknownCall),
     }
 }
 
-impl Request {
-    pub fn read(line: &[u8]) -> Result<Request, Fault>
-        ensures { result ≡ request line.now }
-    {
+impl TryFrom<&[u8]> for Request {
+    type Error = Fault;
+
+    ghost try_from_gives = { λ line made. made ≡ request line.now };
+
+    fn try_from(line: &[u8]) -> Result<Request, Fault> {
         if bytes::count(line, bytes::SPACE) != 3 {
             return Err(Fault::Malformed);
         }
+        // No `split` of std: each of its pieces comes as an Option, though the count has told that there are four.
         let (first, rest) = Field::read(line);
         let (place, rest) = Field::read(rest);
         let (task, rest) = Field::read(rest);
         let (value, _) = Field::read(rest);
-        let Some(name) = named(first) else {
-            return Err(Fault::UnknownCall);
-        };
+        let name = named(first)?;
         let wants = name.wants();
-        let place = taken(place, wants.place)?;
-        let task = taken(task, wants.task)?;
-        let value = taken(value, wants.value)?;
         Ok(Request {
             name,
-            place,
-            task,
-            value,
+            place: taken(place, wants.place)?,
+            task: taken(task, wants.task)?,
+            value: taken(value, wants.value)?,
         })
     }
 }

@@ -1,41 +1,18 @@
 // Answer lines, each written where the one before ended.
-ghost use Rattle.std.specs.Prelude.{◌≡◌, ◌^◌, ◌<◌, ◌≤◌, length, drop, decimal};
+ghost use Rattle.std.specs.Prelude.{◌≡◌, ◌^◌, ◌<◌, ◌≤◌, length, decimal};
 ghost use Rattle.script.specs.Writers.{Room, Appends};
-ghost use Rattle.script.specs.Written.{heading, value_text, answer_line, told, fault_line, overwritten};
+ghost use Rattle.script.specs.Written.{heading, value_text, answer_line, told, fault_line};
 
-use super::bytes;
 use super::fault::Fault;
+use itoa::Buffer;
 use station::Answer;
 
+// The length stands beside the buffer, since it is the caller's, across C, and no list of our own.
+// `Room` is asked of each method, since each piece wants another room.
 #[derive(Drop)]
 pub struct Writer<'a> {
     pub out: &'a mut [u8],
     pub len: usize,
-}
-
-// Writes the text at the front.
-fn fill(rest: &mut [u8], text: &[u8])
-    requires { length text.now ≤ length rest.old }
-    ensures { rest.new ≡ overwritten 0 text.now rest.old }
-{
-    rest[0..text.len()].copy_from_slice(text);
-}
-
-// Writes the digits of a number to the end of the buffer, and answers where they begin.
-fn spell(n: u64, buffer: &mut [u8; 20]) -> usize
-    ensures within { result ≤ 20 }
-    ensures digits { drop result buffer.new ≡ decimal n }
-{
-    let mut left = n;
-    let mut at = 20;
-    while left >= 10 {
-        at -= 1;
-        buffer[at] = b'0' + (left % 10) as u8;
-        left /= 10;
-    }
-    at -= 1;
-    buffer[at] = b'0' + left as u8;
-    at
 }
 
 impl Writer<'_> {
@@ -44,18 +21,17 @@ impl Writer<'_> {
         requires { Room (length text.now) self.old }
         ensures { Appends text.now self.old self.new }
     {
-        let at = self.len;
-        fill(&mut self.out[at..], text);
-        self.len = at + text.len();
+        let end = self.len + text.len();
+        self.out[self.len..end].copy_from_slice(text);
+        self.len = end;
     }
 
+    // `write!` would not promise that nothing fails where there is room.
     fn number(&mut self, n: u64)
         requires { Room (length (decimal n)) self.old }
         ensures { Appends (decimal n) self.old self.new }
     {
-        let mut buffer = [0; 20];
-        let at = spell(n, &mut buffer);
-        self.put(&buffer[at..]);
+        self.put(Buffer::new().format(n).as_bytes());
     }
 
     fn value(&mut self, value: Option<u64>)
@@ -92,7 +68,7 @@ impl Writer<'_> {
         requires { Room (length (fault_line line fault)) self.old }
         ensures { Appends (fault_line line fault) self.old self.new }
     {
-        self.line(line, b"fault", Some(fault.number()));
+        self.line(line, b"fault", Some(u64::from(fault)));
     }
 
     // An answer takes at most 36 bytes, as long as the lines have six digits at most.

@@ -1,4 +1,4 @@
-pub mod Answers
 pub mod Model
+pub mod Parts
 pub mod Rules
 pub mod Steps

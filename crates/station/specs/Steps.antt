@@ -1,18 +1,16 @@
 -- What a station answers to each call, and what the call leaves of it. Assumes nothing.
-use Rattle.std.specs.Prelude.{ℕ, Bool, cond}
+use Rattle.std.specs.Prelude.{ℕ}
 use Rattle.bells.specs.Due.{how_many}
-use Rattle.station.specs.declared.answer.Answer.{Answer}
-use Rattle.station.specs.declared.answer.Answer.TheVariants as answer
+use Rattle.stations.specs.declared.answer.Answer.{Answer}
+use Rattle.stations.specs.declared.answer.Answer.TheVariants as answer
 use Rattle.station.specs.declared.call.Call.{Call}
 use Rattle.station.specs.declared.call.Call.TheVariants as call
 use Rattle.station.specs.Model.{Phaser, Station}
 use Rattle.station.specs.Rules.{closes, has_arrived}
+use Rattle.stations.specs.Steps.{yes_or_no}
 
 abbrev pub with_phaser : Phaser → Station → Station
 with_phaser p s = record { phaser = p; barrier = s.barrier; due = s.due }
-
-abbrev pub yes_or_no : Bool → Answer
-yes_or_no b = cond b answer.Yes answer.No
 
 -- `known` is how many tasks the bell knows
 abbrev pub step : ℕ → Call → Station → Answer × Station

@@ -1,14 +1,14 @@
 // A station: one phaser, one barrier and one bell.
+// Beside `stations`, since scripts open no tables yet: it goes once they run on the whole station.
 #![tactic(auto)]
 
-mod answer;
 mod barrier;
 mod call;
-mod phaser;
+mod counts;
 mod whole;
 
-pub use answer::Answer;
 pub use barrier::Barrier;
 pub use call::Call;
-pub use phaser::Phaser;
+pub use counts::Phaser;
+pub use stations::Answer;
 pub use whole::Station;

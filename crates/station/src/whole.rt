@@ -1,15 +1,16 @@
 // The parts of one station together, and every call on them.
 ghost use Rattle.std.specs.Prelude.{◌≡◌};
-ghost use Rattle.station.specs.Model.{station_of};
+ghost use Rattle.station.specs.Parts.{station_of};
 ghost use Rattle.station.specs.Rules.{opened};
-ghost use Rattle.station.specs.Steps.{step, yes_or_no};
+ghost use Rattle.station.specs.Steps.{step};
 
-use super::answer::Answer;
 use super::barrier::Barrier;
 use super::call::Call;
-use super::phaser::Phaser;
+use super::counts::Phaser;
 use bells::Bell;
+use stations::Answer;
 
+// No `impl Model`: its value would hold a function, the bell's meaning, which has no code.
 #[derive(Drop)]
 pub struct Station<B> {
     phaser: Phaser,
@@ -17,16 +18,10 @@ pub struct Station<B> {
     bell: B,
 }
 
-fn yes_or_no(yes: bool) -> Answer
-    ensures { result ≡ yes_or_no yes }
-{
-    if yes { Answer::Yes } else { Answer::No }
-}
-
 impl<B: Bell> Station<B> {
     // A station with a barrier of n hosts, at a phase and a generation, and a new bell.
     pub fn open(n: u32, phase: u64, generation: u64) -> Station<B>
-        ensures { station_of B.Bell.meaning result ≡ opened n phase generation }
+        ensures { station_of B.meaning result ≡ opened n phase generation }
     {
         Station {
             phaser: Phaser::new(phase),
@@ -36,19 +31,17 @@ impl<B: Bell> Station<B> {
     }
 
     pub fn perform(&mut self, call: Call) -> Answer
-        ensures { (result, station_of B.Bell.meaning self.new) ≡ step B.Bell.known call (station_of B.Bell.meaning self.old) }
+        ensures { (result, station_of B.meaning self.new) ≡ step B.KNOWN call (station_of B.meaning self.old) }
     {
         match call {
-            Call::Close => {
-                self.phaser.close();
-                Answer::Ok
-            }
-            Call::Phase => Answer::Number(self.phaser.phase()),
-            Call::IsClosed => yes_or_no(self.phaser.is_closed()),
-            Call::Registered => Answer::Number(self.phaser.registered()),
-            Call::Arrived => Answer::Number(self.phaser.arrived()),
-            Call::Unarrived => Answer::Number(self.phaser.unarrived()),
-            Call::Generation => Answer::Number(self.barrier.generation()),
+            Call::Close => Answer::from(self.phaser.close()),
+            Call::Phase => Answer::from(self.phaser.phase()),
+            Call::IsClosed => Answer::from(self.phaser.is_closed()),
+            Call::Registered => Answer::from(self.phaser.registered()),
+            Call::Arrived => Answer::from(self.phaser.arrived()),
+            Call::Unarrived => Answer::from(self.phaser.unarrived()),
+            Call::Generation => Answer::from(self.barrier.generation()),
+            // `as`, since there is no `From<usize>` for `u64`.
             Call::Tally => Answer::Number(self.bell.tally() as u64),
         }
     }

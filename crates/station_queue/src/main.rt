@@ -1,4 +1,4 @@
-// Runs a script on a station whose bell is a queue.
+// Runs a script on a station whose bell is a queue: a program for each bell, since `main` takes no type.
 #![tactic(auto)]
 
 use bells::Queue;

@@ -1,12 +1,11 @@
 -- What a station is: its parts as plain records. Assumes nothing.
 use Rattle.bells.specs.Due.{Due}
-use Rattle.arena.specs.Arenas.{table_of}
 use Rattle.arena.specs.Table.{Table}
 use Rattle.phaser.specs.declared.follower.Follower.{Follower}
 use Rattle.phaser.specs.declared.member.Batch.{Batch}
 use Rattle.phaser.specs.declared.member.Member.{Member}
 use Rattle.phaser.specs.declared.watcher.Watcher.{Watcher}
-use Rattle.phaser.specs.Model.{Phaser, Barrier, phaser_of, barrier_of}
+use Rattle.phaser.specs.Model.{Phaser, Barrier}
 use Rattle.stations.specs.declared.whole.Station.{Station as Bundle}
 
 pub record Station (W : Type 0) : Type 0 where
@@ -22,11 +21,11 @@ pub record Station (W : Type 0) : Type 0 where
 abbrev pub station_of : {B W : Type 0} → (B → Due) → Bundle B W → Station W
 station_of meaning s =
     record {
-      phaser = phaser_of s.phaser;
-      barrier = barrier_of s.barrier;
-      members = table_of s.members;
-      batches = table_of s.batches;
-      watchers = table_of s.watchers;
-      followers = table_of s.followers;
+      phaser = s.phaser;
+      barrier = s.barrier;
+      members = s.members;
+      batches = s.batches;
+      watchers = s.watchers;
+      followers = s.followers;
       due = meaning s.bell;
     }

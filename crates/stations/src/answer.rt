@@ -5,7 +5,7 @@ ghost use Rattle.stations.specs.Answers.{word_of, value_of, Below64};
 use bells::Refusal;
 
 // Each case is a word with a value or none; to the outside it is known by these.
-#[derive(Clone, Copy)]
+#[derive(Clone, Copy, PartialEq, Eq, Debug)]
 pub enum Answer {
     // Accepted, with nothing to tell.
     Ok,
@@ -31,16 +31,15 @@ pub enum Answer {
 }
 
 impl Answer {
+    // No `Display`: the word is one of three fields of a line, copied into the caller's buffer, and `write!` promises no
+    // success there.
     pub fn word(self) -> &'static [u8]
         ensures { result.now ≡ word_of self }
     {
         match self {
-            Answer::Ok => b"ok",
-            Answer::Place(_) => b"ok",
-            Answer::Number(_) => b"ok",
+            Answer::Ok | Answer::Place(_) | Answer::Number(_) => b"ok",
             Answer::Ready(_) => b"ready",
-            Answer::Parked => b"parked",
-            Answer::ParkedAt(_) => b"parked",
+            Answer::Parked | Answer::ParkedAt(_) => b"parked",
             Answer::Closed => b"closed",
             Answer::None => b"none",
             Answer::Leader => b"leader",
@@ -51,16 +50,15 @@ impl Answer {
         }
     }
 
+    // No `From`: a word and a value are one answer in two parts. `as`, since there is no `From<usize>` for `u64`.
     pub fn value(self) -> Option<u64>
         ensures value { result ≡ value_of self }
         ensures fits { Below64 result }
     {
         match self {
-            Answer::Place(place) => Some(place as u64),
-            Answer::ParkedAt(place) => Some(place as u64),
-            Answer::Number(number) => Some(number),
-            Answer::Ready(phase) => Some(phase),
-            Answer::Refused(refusal) => Some(refusal.number()),
+            Answer::Place(place) | Answer::ParkedAt(place) => Some(place as u64),
+            Answer::Number(number) | Answer::Ready(number) => Some(number),
+            Answer::Refused(refusal) => Some(u64::from(refusal)),
             _ => None,
         }
     }

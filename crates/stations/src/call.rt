@@ -1,6 +1,6 @@
 // The calls that a station performs.
 
-#[derive(Clone, Copy)]
+#[derive(Clone, Copy, PartialEq, Eq, Debug)]
 pub enum Call<W> {
     // The members' calls, with a place where they act on one.
     RegisterOne,

@@ -1,16 +1,25 @@
 // What a station is opened with: its sizes, and the slots for its tables.
 ghost use Rattle.std.specs.Prelude.{◌≡◌, ◌≤◌};
 ghost use Rattle.arena.specs.Table.{fresh};
-ghost use Rattle.arena.specs.Arenas.{table_of};
-ghost use Rattle.arena.specs.Sets.{entries_of};
-ghost use Rattle.stations.specs.Openings.{within, tables_fit, fits as fitting};
+ghost use Rattle.stations.specs.Openings.{tables_fit, fits as fitting};
 
 use arena::{Arena, Entry, Slot, WakerSet};
 use bells::Waker;
 use phaser::{Batch, Follower, Member, Watcher};
 
+// The most places of each table, and the most slots of each set.
+pub(crate) const MEMBERS: usize = 512;
+
+pub(crate) const BATCHES: usize = 64;
+
+pub(crate) const WATCHERS: usize = 512;
+
+pub(crate) const FOLLOWERS: usize = 512;
+
+pub(crate) const SLOTS: usize = 1024;
+
 // How many hosts meet at the barrier, where both counters begin, and how many places each table and slots each set has.
-#[derive(Clone, Copy)]
+#[derive(Clone, Copy, PartialEq, Eq, Debug)]
 pub struct Opening {
     pub n: u32,
     pub phase: u64,
@@ -26,27 +35,20 @@ pub struct Opening {
 // As many slots for each table as the sizes allow at most; what they hold does not matter.
 #[derive(Drop)]
 pub struct Slots {
-    pub members: [Slot<Member>; 512],
-    pub batches: [Slot<Batch>; 64],
-    pub watchers: [Slot<Watcher>; 512],
-    pub followers: [Slot<Follower>; 512],
-}
-
-// From one to the most.
-fn is_within(most: usize, size: usize) -> bool
-    ensures { result ≡ within most size }
-{
-    1 <= size && size <= most
+    pub members: [Slot<Member>; MEMBERS],
+    pub batches: [Slot<Batch>; BATCHES],
+    pub watchers: [Slot<Watcher>; WATCHERS],
+    pub followers: [Slot<Follower>; FOLLOWERS],
 }
 
 impl Opening {
     fn tables_fit(self) -> bool
         ensures { result ≡ tables_fit self }
     {
-        is_within(512, self.members)
-            && is_within(64, self.batches)
-            && is_within(512, self.watchers)
-            && is_within(512, self.followers)
+        (1..=MEMBERS).contains(&self.members)
+            && (1..=BATCHES).contains(&self.batches)
+            && (1..=WATCHERS).contains(&self.watchers)
+            && (1..=FOLLOWERS).contains(&self.followers)
     }
 
     // Whether the sizes are within the limits, and the sets have a slot for each wait.
@@ -57,9 +59,8 @@ impl Opening {
             return false;
         }
         let waits = self.members + self.watchers;
-        let phaser_fits = waits <= self.phaser_slots && self.phaser_slots <= 1024;
-        let barrier_fits = self.followers <= self.barrier_slots && self.barrier_slots <= 1024;
-        phaser_fits && barrier_fits
+        (waits..=SLOTS).contains(&self.phaser_slots)
+            && (self.followers..=SLOTS).contains(&self.barrier_slots)
     }
 }
 
@@ -69,21 +70,18 @@ pub(crate) fn table<T: Drop + Copy, const N: usize>(
     capacity: usize,
 ) -> Arena<T, N>
     requires { capacity ≤ N }
-    ensures { table_of result ≡ fresh capacity }
+    ensures { result ≡ fresh capacity }
 {
-    match Arena::new(slots, capacity) {
-        Ok(arena) => arena,
-        Err(_) => unreachable(),
-    }
+    Arena::new(slots, capacity).unwrap()
 }
 
 // A set of that many free slots.
 pub(crate) fn waiters<W: Waker + Drop + Copy>(
-    slots: [Slot<Entry<W>>; 1024],
+    slots: [Slot<Entry<W>>; SLOTS],
     capacity: usize,
 ) -> WakerSet<W>
     requires { capacity ≤ 1024 }
-    ensures { entries_of result ≡ fresh capacity }
+    ensures { result ≡ fresh capacity }
 {
     WakerSet::new(table(slots, capacity))
 }

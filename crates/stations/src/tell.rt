@@ -1,99 +1,122 @@
-// The answers that the results of calls stand for.
-ghost use Rattle.std.specs.Prelude.{◌≡◌};
-ghost use Rattle.stations.specs.Steps.{answered, no_value, place_or_none, polling, departing, meeting, attending, yes_or_no};
+// What each call of a part returns, as an answer. Places are `usize`, and numbers `u64`.
+ghost use Rattle.std.specs.Prelude.{◌≡◌, MatchResult};
+ghost use Rattle.stations.specs.declared.answer.Answer.TheVariants.{Place, Number, Refused};
+ghost use Rattle.stations.specs.Steps.{no_value, place_or_none, polling, departing, meeting, attending, yes_or_no};
 
 use super::answer::Answer;
 use bells::Refusal;
 use phaser::{Attended, Departed, Met, Polled};
 
-// A new place.
-pub(crate) fn placed(outcome: Result<usize, Refusal>) -> Answer
-    ensures { result ≡ answered Answer.Place outcome }
-{
-    match outcome {
-        Ok(place) => Answer::Place(place),
-        Err(refusal) => Answer::Refused(refusal),
+// A refusal, or what the accepted call tells.
+impl<T: Into<Answer>> From<Result<T, Refusal>> for Answer {
+    ghost from_gives = { λ outcome answer. MatchResult outcome (λ value. T.converts value answer) (λ refusal. answer ≡ Refused refusal) };
+
+    fn from(outcome: Result<T, Refusal>) -> Answer {
+        match outcome {
+            Ok(value) => value.into(),
+            Err(refusal) => Answer::Refused(refusal),
+        }
     }
 }
 
-// A number.
-pub(crate) fn numbered(outcome: Result<u64, Refusal>) -> Answer
-    ensures { result ≡ answered Answer.Number outcome }
-{
-    match outcome {
-        Ok(number) => Answer::Number(number),
-        Err(refusal) => Answer::Refused(refusal),
+impl From<Refusal> for Answer {
+    ghost from_gives = { λ refusal answer. answer ≡ Refused refusal };
+
+    fn from(refusal: Refusal) -> Answer {
+        Answer::Refused(refusal)
     }
 }
 
 // Nothing to tell.
-pub(crate) fn done(outcome: Result<(), Refusal>) -> Answer
-    ensures { result ≡ answered no_value outcome }
-{
-    match outcome {
-        Ok(()) => Answer::Ok,
-        Err(refusal) => Answer::Refused(refusal),
+impl From<()> for Answer {
+    ghost from_gives = { λ nothing answer. answer ≡ no_value nothing };
+
+    fn from(_nothing: ()) -> Answer {
+        Answer::Ok
+    }
+}
+
+// A new place.
+impl From<usize> for Answer {
+    ghost from_gives = { λ place answer. answer ≡ Place place };
+
+    fn from(place: usize) -> Answer {
+        Answer::Place(place)
+    }
+}
+
+// The number that was asked for, or the phase arrived in.
+impl From<u64> for Answer {
+    ghost from_gives = { λ number answer. answer ≡ Number number };
+
+    fn from(number: u64) -> Answer {
+        Answer::Number(number)
+    }
+}
+
+// What was asked with yes or no.
+impl From<bool> for Answer {
+    ghost from_gives = { λ yes answer. answer ≡ yes_or_no yes };
+
+    fn from(yes: bool) -> Answer {
+        if yes { Answer::Yes } else { Answer::No }
     }
 }
 
 // The place of the batch's next member, if one remained.
-pub(crate) fn taken(outcome: Result<Option<usize>, Refusal>) -> Answer
-    ensures { result ≡ answered place_or_none outcome }
-{
-    match outcome {
-        Ok(Some(place)) => Answer::Place(place),
-        Ok(None) => Answer::None,
-        Err(refusal) => Answer::Refused(refusal),
+impl From<Option<usize>> for Answer {
+    ghost from_gives = { λ next answer. answer ≡ place_or_none next };
+
+    fn from(next: Option<usize>) -> Answer {
+        next.map_or(Answer::None, Answer::Place)
     }
 }
 
 // How a wait for a phase stands.
-pub(crate) fn polled(outcome: Result<Polled, Refusal>) -> Answer
-    ensures { result ≡ answered polling outcome }
-{
-    match outcome {
-        Ok(Polled::Ready(phase)) => Answer::Ready(phase),
-        Ok(Polled::Closed) => Answer::Closed,
-        Ok(Polled::Parked) => Answer::Parked,
-        Err(refusal) => Answer::Refused(refusal),
+impl From<Polled> for Answer {
+    ghost from_gives = { λ polled answer. answer ≡ polling polled };
+
+    fn from(polled: Polled) -> Answer {
+        match polled {
+            Polled::Ready(phase) => Answer::Ready(phase),
+            Polled::Closed => Answer::Closed,
+            Polled::Parked => Answer::Parked,
+        }
     }
 }
 
 // The phase that was left, if open.
-pub(crate) fn departed(outcome: Result<Departed, Refusal>) -> Answer
-    ensures { result ≡ answered departing outcome }
-{
-    match outcome {
-        Ok(Departed::Left(phase)) => Answer::Number(phase),
-        Ok(Departed::Closed) => Answer::Closed,
-        Err(refusal) => Answer::Refused(refusal),
+impl From<Departed> for Answer {
+    ghost from_gives = { λ departed answer. answer ≡ departing departed };
+
+    fn from(departed: Departed) -> Answer {
+        match departed {
+            Departed::Left(phase) => Answer::Number(phase),
+            Departed::Closed => Answer::Closed,
+        }
     }
 }
 
 // Whether this meeting leads.
-pub(crate) fn met(outcome: Result<Met, Refusal>) -> Answer
-    ensures { result ≡ answered meeting outcome }
-{
-    match outcome {
-        Ok(Met::Leader) => Answer::Leader,
-        Ok(Met::Parked(place)) => Answer::ParkedAt(place),
-        Err(refusal) => Answer::Refused(refusal),
+impl From<Met> for Answer {
+    ghost from_gives = { λ met answer. answer ≡ meeting met };
+
+    fn from(met: Met) -> Answer {
+        match met {
+            Met::Leader => Answer::Leader,
+            Met::Parked(place) => Answer::ParkedAt(place),
+        }
     }
 }
 
 // How a wait for the others stands.
-pub(crate) fn attended(outcome: Result<Attended, Refusal>) -> Answer
-    ensures { result ≡ answered attending outcome }
-{
-    match outcome {
-        Ok(Attended::Done) => Answer::Done,
-        Ok(Attended::Parked) => Answer::Parked,
-        Err(refusal) => Answer::Refused(refusal),
-    }
-}
+impl From<Attended> for Answer {
+    ghost from_gives = { λ attended answer. answer ≡ attending attended };
 
-pub(crate) fn yes_or_no(yes: bool) -> Answer
-    ensures { result ≡ yes_or_no yes }
-{
-    if yes { Answer::Yes } else { Answer::No }
+    fn from(attended: Attended) -> Answer {
+        match attended {
+            Attended::Done => Answer::Done,
+            Attended::Parked => Answer::Parked,
+        }
+    }
 }

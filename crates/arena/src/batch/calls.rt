@@ -1,72 +1,57 @@
 // The calls of a batch.
-ghost use Rattle.std.specs.Prelude.{◌≡◌, ◌<◌, [], take, None, slice_index_or};
+ghost use Rattle.std.specs.Prelude.{◌≡◌, []};
 ghost use Rattle.bells.specs.Due.{rung};
-ghost use Rattle.arena.specs.Arenas.{table_of};
-ghost use Rattle.arena.specs.Batches.{batch_of, push as pushes, spills};
+ghost use Rattle.arena.specs.Batches.{push as pushes, spills};
 ghost use Rattle.arena.specs.Ringing.{rung_all, each_rung};
 ghost use Rattle.arena.specs.Table.{values};
 
 use super::super::arena::Arena;
 use super::super::wait::Entry;
-use super::WakerBatch;
+use super::{SPILL, WakerBatch};
+use arrayvec::ArrayVec;
 use bells::{Bell, Refusal, Waker};
-
-// From so many wakers on, a batch is to be rung.
-const SPILL: usize = 32;
 
 impl<W: Waker + Drop + Copy, const M: usize> WakerBatch<W, M> {
     // An empty batch in the slots, whatever these hold.
     pub fn new(slots: [Option<W>; M]) -> WakerBatch<W, M>
-        ensures { batch_of result ≡ [] }
+        ensures { result ≡ [] }
     {
-        WakerBatch {
-            wakers: slots,
-            len: 0,
-        }
+        let mut slots = ArrayVec::from_array_in((), slots);
+        slots.clear();
+        WakerBatch { slots }
     }
 
     // Whether the batch is to be rung before the next push.
     pub fn will_spill(&self) -> bool
-        ensures { result ≡ spills (batch_of self.now) }
+        ensures { result ≡ spills self.now }
     {
-        self.len >= SPILL
+        self.slots.len() >= SPILL
     }
 
     // One waker more, unless all slots are used.
     pub fn push(&mut self, waker: W) -> Result<(), Refusal>
-        ensures { (result, batch_of self.new) ≡ pushes M waker (batch_of self.old) }
+        ensures { (result, self.new) ≡ pushes M waker self.old }
     {
-        let at = self.len;
-        if at >= M {
-            return Err(Refusal::TableFull);
-        }
-        self.wakers[at] = Some(waker);
-        self.len = at + 1;
-        Ok(())
-    }
-
-    // The i-th waker.
-    fn at(&self, i: usize) -> Option<W>
-        requires { i < self.now.len }
-        ensures { result ≡ slice_index_or (take self.now.len self.now.wakers) i None }
-    {
-        self.wakers[i]
+        self.slots
+            .try_push(Some(waker))
+            .map_err(|_| Refusal::TableFull)
     }
 
     // Forgets the wakers.
     pub fn clear(&mut self)
-        ensures { batch_of self.new ≡ [] }
+        ensures { self.new ≡ [] }
     {
-        self.len = 0;
+        self.slots.clear();
     }
 
     // Rings the wakers in pushed order, and empties the batch.
     pub fn wake_all<B: Bell>(&mut self, bell: &mut B)
-        ensures rung { B.Bell.meaning bell.new ≡ rung_all W.Waker.names B.Bell.known (B.Bell.meaning bell.old) (batch_of self.old) }
-        ensures left { batch_of self.new ≡ [] }
+        ensures rung { B.meaning bell.new ≡ rung_all W.waking.target B.KNOWN (B.meaning bell.old) self.old }
+        ensures left { self.new ≡ [] }
     {
-        for i in 0..self.len {
-            if let Some(waker) = self.at(i) {
+        // A plain walk: tried as `iter().flatten()`, and the proof of the loop did not close.
+        for slot in self.slots.as_slice() {
+            if let Some(waker) = slot {
                 bell.ring(waker.target());
             }
         }
@@ -75,12 +60,12 @@ impl<W: Waker + Drop + Copy, const M: usize> WakerBatch<W, M> {
 
     // One waker more, and what the batch has no slot for is rung at once: once the batch is rung, so is the waker.
     fn add<B: Bell>(&mut self, waker: W, bell: &mut B)
-        ensures { rung_all W.Waker.names B.Bell.known (B.Bell.meaning bell.new) (batch_of self.new) ≡ rung B.Bell.known (W.Waker.names waker) (rung_all W.Waker.names B.Bell.known (B.Bell.meaning bell.old) (batch_of self.old)) }
+        ensures { rung_all W.waking.target B.KNOWN (B.meaning bell.new) self.new ≡ rung B.KNOWN (W.waking.target waker) (rung_all W.waking.target B.KNOWN (B.meaning bell.old) self.old) }
     {
         if self.will_spill() {
             self.wake_all(bell);
         }
-        if let Err(_) = self.push(waker) {
+        if self.push(waker).is_err() {
             self.wake_all(bell);
             bell.ring(waker.target());
         }
@@ -92,10 +77,11 @@ impl<W: Waker + Drop + Copy, const M: usize> WakerBatch<W, M> {
         entries: &Arena<Entry<W>, N>,
         bell: &mut B,
     )
-        ensures { rung_all W.Waker.names B.Bell.known (B.Bell.meaning bell.new) (batch_of self.new) ≡ each_rung W.Waker.names B.Bell.known (rung_all W.Waker.names B.Bell.known (B.Bell.meaning bell.old) (batch_of self.old)) (values (table_of entries.now).cells) }
+        ensures { rung_all W.waking.target B.KNOWN (B.meaning bell.new) self.new ≡ each_rung W.waking.target B.KNOWN (rung_all W.waking.target B.KNOWN (B.meaning bell.old) self.old) (values entries.now.cells) }
     {
-        for slot in 0..entries.used() {
-            if let Some(entry) = entries.get(slot) {
+        // A plain walk, for the reason that stands at `Arena::copy_out`.
+        for slot in entries.touched() {
+            if let Some(entry) = slot.value() {
                 self.add(entry.waker, bell);
             }
         }

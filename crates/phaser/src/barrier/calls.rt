@@ -3,9 +3,6 @@ ghost use Rattle.std.specs.Prelude.{◌≡◌, false};
 ghost use Rattle.bells.specs.Due.{Due};
 ghost use Rattle.bells.specs.Kind.{kind_of};
 ghost use Rattle.arena.specs.Table.{vacancy};
-ghost use Rattle.arena.specs.Arenas.{table_of};
-ghost use Rattle.arena.specs.Sets.{entries_of};
-ghost use Rattle.phaser.specs.Model.{barrier_of};
 ghost use Rattle.phaser.specs.Barriers.{new_barrier, leads as leading, follow as follows, meet as meets, attend as attends};
 
 use super::super::follower::Follower;
@@ -17,7 +14,7 @@ use bells::{Bell, Refusal, Waker};
 impl<W: Waker + Drop + Copy> Barrier<W> {
     // A barrier of n hosts at which none has met.
     pub fn new(n: u32, generation: u64, waiters: WakerSet<W>) -> Barrier<W>
-        ensures { barrier_of result ≡ new_barrier n generation (entries_of waiters) }
+        ensures { result ≡ new_barrier n generation waiters }
     {
         Barrier {
             n,
@@ -29,20 +26,21 @@ impl<W: Waker + Drop + Copy> Barrier<W> {
 
     // Whether one more makes the group complete; a group of nobody is one of one.
     fn leads(&self) -> bool
-        ensures { result ≡ leading (barrier_of self.now) }
+        ensures { result ≡ leading self.now }
     {
         let size = self.n.max(1);
         self.arrived + 1 == size
     }
 
-    // Meets the others: the last one leads, and the others follow.
+    // Meets the others: the last one leads, and the others follow. The guard on the task is written out here as in `attend`,
+    // `poll` and `look`: one function with `?` was tried, and left five goals open that the check finds alone so.
     pub fn meet<const M: usize, B: Bell>(
         &mut self,
         followers: &mut Arena<Follower, M>,
         bell: &mut B,
         waker: W,
     ) -> Result<Met, Refusal>
-        ensures { (result, (barrier_of self.new, table_of followers.new, B.Bell.meaning bell.new)) ≡ meets (kind_of B.Bell.known W.Waker.names W.Waker.wakes W.Waker.same) waker (barrier_of self.old, table_of followers.old, B.Bell.meaning bell.old) }
+        ensures { (result, (self.new, followers.new, B.meaning bell.new)) ≡ meets (kind_of B.KNOWN W.waking) waker (self.old, followers.old, B.meaning bell.old) }
     {
         if !B::knows(waker.target()) {
             return Err(Refusal::UnknownTask);
@@ -65,30 +63,25 @@ impl<W: Waker + Drop + Copy> Barrier<W> {
         followers: &mut Arena<Follower, M>,
         waker: W,
     ) -> Result<Met, Refusal>
-        requires { leading (barrier_of self.old) ≡ false }
-        ensures { (due : Due) → (result, (barrier_of self.new, table_of followers.new, due)) ≡ follows W.Waker.wakes waker (vacancy (table_of followers.old)) (barrier_of self.old, table_of followers.old, due) }
+        requires { leading self.old ≡ false }
+        ensures { (due : Due) → (result, (self.new, followers.new, due)) ≡ follows W.waking.wakes waker (vacancy followers.old) (self.old, followers.old, due) }
     {
-        let Some(place) = followers.vacancy() else {
-            return Err(Refusal::TableFull);
-        };
+        let place = followers.vacancy().ok_or(Refusal::TableFull)?;
         let owner = Wait {
             table: WaitTable::Followers,
             place,
         };
-        match self.waiters.register(None, owner, waker) {
-            Ok(registered) => {
-                let _ = followers.insert(Follower {
-                    generation: self.generation,
-                    slot: Some(registered.slot),
-                });
-                self.arrived += 1;
-                Ok(Met::Parked(place))
-            }
-            Err(refusal) => Err(refusal),
-        }
+        let registered = self.waiters.register(None, owner, waker)?;
+        let _ = followers.insert(Follower {
+            generation: self.generation,
+            slot: Some(registered.slot),
+        });
+        self.arrived += 1;
+        Ok(Met::Parked(place))
     }
 
-    // Waits until the follower's generation is complete, and then lets it go.
+    // Waits until the follower's generation is complete, and then lets it go. The bell is taken for its kind alone, which says
+    // whether the task is known.
     pub fn attend<const M: usize, B: Bell>(
         &mut self,
         followers: &mut Arena<Follower, M>,
@@ -96,15 +89,12 @@ impl<W: Waker + Drop + Copy> Barrier<W> {
         place: usize,
         waker: W,
     ) -> Result<Attended, Refusal>
-        ensures { (result, (barrier_of self.new, table_of followers.new)) ≡ attends (kind_of B.Bell.known W.Waker.names W.Waker.wakes W.Waker.same) place waker (barrier_of self.old, table_of followers.old) }
+        ensures { (result, (self.new, followers.new)) ≡ attends (kind_of B.KNOWN W.waking) place waker (self.old, followers.old) }
     {
-        let Some(follower) = followers.get(place) else {
-            return Err(Refusal::Vacant);
-        };
+        let Follower { generation, slot } = followers.get(place).ok_or(Refusal::Vacant)?;
         if !B::knows(waker.target()) {
             return Err(Refusal::UnknownTask);
         }
-        let generation = follower.generation;
         if generation < self.generation {
             let _ = followers.remove(place);
             return Ok(Attended::Done);
@@ -113,13 +103,9 @@ impl<W: Waker + Drop + Copy> Barrier<W> {
             table: WaitTable::Followers,
             place,
         };
-        match self.waiters.register(follower.slot, owner, waker) {
-            Ok(registered) => {
-                let slot = Some(registered.slot);
-                let _ = followers.replace(place, Follower { generation, slot });
-                Ok(Attended::Parked)
-            }
-            Err(refusal) => Err(refusal),
-        }
+        let registered = self.waiters.register(slot, owner, waker)?;
+        let slot = Some(registered.slot);
+        let _ = followers.replace(place, Follower { generation, slot });
+        Ok(Attended::Parked)
     }
 }

@@ -1,11 +1,10 @@
 // How members arrive, and wait for the others.
 ghost use Rattle.std.specs.Prelude.{◌≡◌};
+ghost use Rattle.bells.specs.Due.{Due};
 ghost use Rattle.bells.specs.Kind.{kind_of};
-ghost use Rattle.arena.specs.Arenas.{table_of};
-ghost use Rattle.phaser.specs.Model.{phaser_of};
-ghost use Rattle.phaser.specs.Members.{arrive_as as arrives_as, arrive as arrives, first_poll as polls_first, poll as polls, cancel as cancels};
+ghost use Rattle.phaser.specs.Members.{arrive as arrives, first_poll as polls_first, polled_by, beside, poll as polls, cancel as cancels};
+ghost use Rattle.phaser.specs.Rules.{wait_of, complete as completes};
 
-use super::super::counts::Counts;
 use super::super::member::Member;
 use super::super::outcome::{Outcome, Polled};
 use super::Phaser;
@@ -13,36 +12,6 @@ use arena::{Arena, Wait, WaitTable};
 use bells::{Bell, Refusal, Waker};
 
 impl<W: Waker + Drop + Copy> Phaser<W> {
-    // Arrives with a member that is not in flight, by whether it counts as arrived already.
-    fn arrive_as<const M: usize, B: Bell>(
-        &mut self,
-        members: &mut Arena<Member, M>,
-        bell: &mut B,
-        place: usize,
-        already: bool,
-    ) -> Result<u64, Refusal>
-        ensures { (result, (phaser_of self.new, table_of members.new, B.Bell.meaning bell.new)) ≡ arrives_as (kind_of B.Bell.known W.Waker.names W.Waker.wakes W.Waker.same) place already (phaser_of self.old, table_of members.old, B.Bell.meaning bell.old) }
-    {
-        let c = self.counts;
-        if c.closed {
-            return Err(Refusal::Closed);
-        }
-        if c.registered == 0 {
-            return Err(Refusal::Miscounted);
-        }
-        let unarrived = if already {
-            c.unarrived
-        } else {
-            if c.unarrived == 0 {
-                return Err(Refusal::Miscounted);
-            }
-            c.unarrived - 1
-        };
-        let _ = members.replace(place, Member::Pending(c.phase));
-        self.settle(bell, c.registered, unarrived);
-        Ok(c.phase)
-    }
-
     // Arrives in the present phase, and answers it.
     pub fn arrive<const M: usize, B: Bell>(
         &mut self,
@@ -50,19 +19,20 @@ impl<W: Waker + Drop + Copy> Phaser<W> {
         bell: &mut B,
         place: usize,
     ) -> Result<u64, Refusal>
-        ensures { (result, (phaser_of self.new, table_of members.new, B.Bell.meaning bell.new)) ≡ arrives (kind_of B.Bell.known W.Waker.names W.Waker.wakes W.Waker.same) place (phaser_of self.old, table_of members.old, B.Bell.meaning bell.old) }
+        ensures { (result, (self.new, members.new, B.meaning bell.new)) ≡ arrives (kind_of B.KNOWN W.waking) place (self.old, members.old, B.meaning bell.old) }
     {
-        let Some(member) = members.get(place) else {
-            return Err(Refusal::Vacant);
-        };
-        match member {
-            Member::Idle => self.arrive_as(members, bell, place, false),
-            Member::Pending(phase) => {
-                let already = phase == self.counts.phase;
-                self.arrive_as(members, bell, place, already)
-            }
-            Member::InFlight(_, _) => Err(Refusal::InFlight),
+        let member = members.get(place).ok_or(Refusal::Vacant)?;
+        if let Member::InFlight(_, _) = member {
+            return Err(Refusal::InFlight);
         }
+        let counts = self.counts;
+        if counts.closed {
+            return Err(Refusal::Closed);
+        }
+        let unarrived = counts.unarrived_after(member)?;
+        let _ = members.replace(place, Member::Pending(counts.phase));
+        self.settle(bell, counts.registered, unarrived);
+        Ok(counts.phase)
     }
 
     // The poll of a member with nothing pending: it arrives, and then waits. Whoever would have to park and finds no slot has
@@ -73,42 +43,47 @@ impl<W: Waker + Drop + Copy> Phaser<W> {
         place: usize,
         waker: W,
     ) -> Result<Outcome, Refusal>
-        ensures { (result, (phaser_of self.new, B.Bell.meaning bell.new)) ≡ polls_first (kind_of B.Bell.known W.Waker.names W.Waker.wakes W.Waker.same) place waker (phaser_of self.old, B.Bell.meaning bell.old) }
+        ensures { (result, (self.new, B.meaning bell.new)) ≡ polls_first (kind_of B.KNOWN W.waking) place waker (self.old, B.meaning bell.old) }
     {
-        let c = self.counts;
-        if c.closed {
+        let counts = self.counts;
+        if counts.closed {
             return Ok(Outcome::Closed);
         }
-        if c.unarrived == 0 {
+        if counts.unarrived == 0 {
             return Err(Refusal::Miscounted);
         }
-        if c.unarrived == 1 {
-            let phase = c.phase.wrapping_add(1);
-            self.counts = Counts {
-                phase,
-                closed: false,
-                registered: c.registered,
-                unarrived: c.registered,
-            };
-            self.waiters.wake_all(bell);
-            return Ok(Outcome::Ready(phase));
+        if counts.unarrived == 1 {
+            self.settle(bell, counts.registered, 0);
+            return Ok(Outcome::Ready(self.phase()));
         }
         let owner = Wait {
             table: WaitTable::Members,
             place,
         };
-        match self.waiters.register(None, owner, waker) {
-            Ok(registered) => {
-                self.counts = Counts {
-                    phase: c.phase,
-                    closed: false,
-                    registered: c.registered,
-                    unarrived: c.unarrived - 1,
-                };
-                Ok(Outcome::Parked(registered.slot))
-            }
-            Err(refusal) => Err(refusal),
-        }
+        let registered = self.waiters.register(None, owner, waker)?;
+        self.counts.unarrived = counts.unarrived - 1;
+        Ok(Outcome::Parked(registered.slot))
+    }
+
+    // The poll of a member that has arrived: it waits until that phase is over.
+    fn poll_again<const M: usize>(
+        &mut self,
+        members: &mut Arena<Member, M>,
+        place: usize,
+        arrived: u64,
+        remembered: Option<usize>,
+        waker: W,
+    ) -> Result<Polled, Refusal>
+        ensures { (due : Due) → (result, (self.new, members.new, due)) ≡ polled_by place (Member.Pending arrived) arrived (self.old, members.old, due) (beside due (completes W.waking.wakes arrived remembered (wait_of WaitTable.Members place) waker self.old)) }
+    {
+        let owner = Wait {
+            table: WaitTable::Members,
+            place,
+        };
+        let outcome = self.complete(arrived, remembered, owner, waker)?;
+        let after = outcome.member_after(Member::Pending(arrived), arrived);
+        let _ = members.replace(place, after);
+        Ok(Polled::from(outcome))
     }
 
     // Arrives if nothing is pending, and waits until the phase is over.
@@ -119,52 +94,22 @@ impl<W: Waker + Drop + Copy> Phaser<W> {
         place: usize,
         waker: W,
     ) -> Result<Polled, Refusal>
-        ensures { (result, (phaser_of self.new, table_of members.new, B.Bell.meaning bell.new)) ≡ polls (kind_of B.Bell.known W.Waker.names W.Waker.wakes W.Waker.same) place waker (phaser_of self.old, table_of members.old, B.Bell.meaning bell.old) }
+        ensures { (result, (self.new, members.new, B.meaning bell.new)) ≡ polls (kind_of B.KNOWN W.waking) place waker (self.old, members.old, B.meaning bell.old) }
     {
-        let Some(member) = members.get(place) else {
-            return Err(Refusal::Vacant);
-        };
+        let member = members.get(place).ok_or(Refusal::Vacant)?;
         if !B::knows(waker.target()) {
             return Err(Refusal::UnknownTask);
         }
-        let owner = Wait {
-            table: WaitTable::Members,
-            place,
-        };
         match member {
             Member::Idle => {
                 let phase = self.counts.phase;
-                match self.first_poll(bell, place, waker) {
-                    Ok(outcome) => {
-                        let _ = members.replace(place, outcome.member_after(Member::Idle, phase));
-                        Ok(outcome.told())
-                    }
-                    Err(refusal) => Err(refusal),
-                }
+                let outcome = self.first_poll(bell, place, waker)?;
+                let _ = members.replace(place, outcome.member_after(Member::Idle, phase));
+                Ok(Polled::from(outcome))
             }
-            Member::Pending(phase) => {
-                match self.complete(phase, None, owner, waker) {
-                    Ok(outcome) => {
-                        let _ = members.replace(
-                            place,
-                            outcome.member_after(Member::Pending(phase), phase),
-                        );
-                        Ok(outcome.told())
-                    }
-                    Err(refusal) => Err(refusal),
-                }
-            }
+            Member::Pending(phase) => self.poll_again(members, place, phase, None, waker),
             Member::InFlight(phase, slot) => {
-                match self.complete(phase, Some(slot), owner, waker) {
-                    Ok(outcome) => {
-                        let _ = members.replace(
-                            place,
-                            outcome.member_after(Member::Pending(phase), phase),
-                        );
-                        Ok(outcome.told())
-                    }
-                    Err(refusal) => Err(refusal),
-                }
+                self.poll_again(members, place, phase, Some(slot), waker)
             }
         }
     }
@@ -175,11 +120,9 @@ impl<W: Waker + Drop + Copy> Phaser<W> {
         members: &mut Arena<Member, M>,
         place: usize,
     ) -> Result<(), Refusal>
-        ensures { (result, (phaser_of self.new, table_of members.new)) ≡ cancels place (phaser_of self.old, table_of members.old) }
+        ensures { (result, (self.new, members.new)) ≡ cancels place (self.old, members.old) }
     {
-        let Some(member) = members.get(place) else {
-            return Err(Refusal::Vacant);
-        };
+        let member = members.get(place).ok_or(Refusal::Vacant)?;
         if let Member::InFlight(phase, slot) = member {
             let owner = Wait {
                 table: WaitTable::Members,

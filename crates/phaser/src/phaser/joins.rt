@@ -1,10 +1,7 @@
 // How members come: one at a time, or as a batch that is taken apart later.
 ghost use Rattle.std.specs.Prelude.{◌≡◌};
-ghost use Rattle.arena.specs.Arenas.{table_of};
-ghost use Rattle.phaser.specs.Model.{phaser_of};
 ghost use Rattle.phaser.specs.Members.{admit as admits, register_one, register as registers, next as nexts};
 
-use super::super::counts::Counts;
 use super::super::member::{Batch, Member};
 use super::Phaser;
 use arena::Arena;
@@ -18,27 +15,20 @@ impl<W: Waker + Drop + Copy> Phaser<W> {
         value: T,
         parties: u64,
     ) -> Result<usize, Refusal>
-        ensures { (result, (phaser_of self.new, table_of table.new)) ≡ admits parties value (phaser_of self.old, table_of table.old) }
+        ensures { (result, (self.new, table.new)) ≡ admits parties value (self.old, table.old) }
     {
-        let c = self.counts;
-        if c.closed {
+        let counts = &mut self.counts;
+        if counts.closed {
             return Err(Refusal::Closed);
         }
-        let Some(registered) = c.registered.checked_add(parties) else {
-            return Err(Refusal::CountOverflow);
-        };
-        match table.insert(value) {
-            Ok(place) => {
-                self.counts = Counts {
-                    phase: c.phase,
-                    closed: false,
-                    registered,
-                    unarrived: c.unarrived + parties,
-                };
-                Ok(place)
-            }
-            Err(refusal) => Err(refusal),
-        }
+        let registered = counts
+            .registered
+            .checked_add(parties)
+            .ok_or(Refusal::CountOverflow)?;
+        let place = table.insert(value)?;
+        counts.registered = registered;
+        counts.unarrived += parties;
+        Ok(place)
     }
 
     // One member more, with nothing pending.
@@ -46,7 +36,7 @@ impl<W: Waker + Drop + Copy> Phaser<W> {
         &mut self,
         members: &mut Arena<Member, M>,
     ) -> Result<usize, Refusal>
-        ensures { (result, (phaser_of self.new, table_of members.new)) ≡ register_one (phaser_of self.old, table_of members.old) }
+        ensures { (result, (self.new, members.new)) ≡ register_one (self.old, members.old) }
     {
         self.admit(members, Member::Idle, 1)
     }
@@ -57,7 +47,7 @@ impl<W: Waker + Drop + Copy> Phaser<W> {
         batches: &mut Arena<Batch, M>,
         parties: u64,
     ) -> Result<usize, Refusal>
-        ensures { (result, (phaser_of self.new, table_of batches.new)) ≡ registers parties (phaser_of self.old, table_of batches.old) }
+        ensures { (result, (self.new, batches.new)) ≡ registers parties (self.old, batches.old) }
     {
         self.admit(batches, Batch { remaining: parties }, parties)
     }
@@ -70,21 +60,15 @@ impl Batch {
         members: &mut Arena<Member, M>,
         place: usize,
     ) -> Result<Option<usize>, Refusal>
-        ensures { (result, (table_of batches.new, table_of members.new)) ≡ nexts place (table_of batches.old, table_of members.old) }
+        ensures { (result, (batches.new, members.new)) ≡ nexts place (batches.old, members.old) }
     {
-        let Some(batch) = batches.get(place) else {
-            return Err(Refusal::Vacant);
-        };
+        let batch = batches.get(place).ok_or(Refusal::Vacant)?;
         if batch.remaining == 0 {
             return Ok(None);
         }
-        match members.insert(Member::Idle) {
-            Ok(member) => {
-                let remaining = batch.remaining - 1;
-                let _ = batches.replace(place, Batch { remaining });
-                Ok(Some(member))
-            }
-            Err(refusal) => Err(refusal),
-        }
+        let member = members.insert(Member::Idle)?;
+        let remaining = batch.remaining - 1;
+        let _ = batches.replace(place, Batch { remaining });
+        Ok(Some(member))
     }
 }

@@ -1,39 +1,41 @@
 // What a phaser tells of itself.
-ghost use Rattle.std.specs.Prelude.{◌≡◌, ◌-◌};
-ghost use Rattle.phaser.specs.Model.{phaser_of};
+ghost use Rattle.std.specs.Prelude.{◌≡◌, ◌-◌, ◌<◌, ◌≤◌, false};
 
 use super::Phaser;
 use bells::Waker;
 
 impl<W: Waker + Drop + Copy> Phaser<W> {
     pub fn phase(&self) -> u64
-        ensures { result ≡ (phaser_of self.now).tally.phase }
+        ensures { result ≡ self.now.tally.phase }
     {
         self.counts.phase
     }
 
     pub fn is_closed(&self) -> bool
-        ensures { result ≡ (phaser_of self.now).tally.closed }
+        ensures { result ≡ self.now.tally.closed }
     {
         self.counts.closed
     }
 
     pub fn registered(&self) -> u64
-        ensures { result ≡ (phaser_of self.now).tally.registered }
+        ensures { result ≡ self.now.tally.registered }
     {
         self.counts.registered
     }
 
     // Of those registered, how many have arrived in the present phase.
     pub fn arrived(&self) -> u64
-        ensures { result ≡ (phaser_of self.now).tally.registered - (phaser_of self.now).tally.unarrived }
+        ensures count { result ≡ self.now.tally.registered - self.now.tally.unarrived }
+        ensures within { self.now.tally.unarrived ≤ self.now.tally.registered }
     {
-        let c = self.counts;
-        c.registered - c.unarrived
+        let counts = self.counts;
+        counts.registered - counts.unarrived
     }
 
+    // Open with members, somebody is still to arrive.
     pub fn unarrived(&self) -> u64
-        ensures { result ≡ (phaser_of self.now).tally.unarrived }
+        ensures count { result ≡ self.now.tally.unarrived }
+        ensures awaited { self.now.tally.closed ≡ false → 0 < self.now.tally.registered → 0 < self.now.tally.unarrived }
     {
         self.counts.unarrived
     }

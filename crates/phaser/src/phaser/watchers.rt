@@ -1,8 +1,6 @@
 // How watchers wait for a phase to be over.
 ghost use Rattle.std.specs.Prelude.{◌≡◌};
 ghost use Rattle.bells.specs.Kind.{kind_of};
-ghost use Rattle.arena.specs.Arenas.{table_of};
-ghost use Rattle.phaser.specs.Model.{phaser_of};
 ghost use Rattle.phaser.specs.Watchers.{watch as watches, table_after, look as looks, unwatch as unwatches};
 
 use super::super::outcome::{Outcome, Polled};
@@ -17,17 +15,38 @@ impl Watcher {
         watchers: &mut Arena<Watcher, M>,
         observed: u64,
     ) -> Result<usize, Refusal>
-        ensures { (result, table_of watchers.new) ≡ watches observed (table_of watchers.old) }
+        ensures { (result, watchers.new) ≡ watches observed watchers.old }
     {
         watchers.insert(Watcher {
             observed,
             slot: None,
         })
     }
+
+    // The table after a look: a watcher that need not wait is gone, and one that parked remembers its slot.
+    fn after<const M: usize>(
+        watchers: &mut Arena<Watcher, M>,
+        place: usize,
+        observed: u64,
+        outcome: Outcome,
+    )
+        ensures { watchers.new ≡ table_after place observed outcome watchers.old }
+    {
+        match outcome {
+            Outcome::Ready(_) | Outcome::Closed => {
+                let _ = watchers.remove(place);
+            }
+            Outcome::Parked(slot) => {
+                let slot = Some(slot);
+                let _ = watchers.replace(place, Watcher { observed, slot });
+            }
+        }
+    }
 }
 
 impl<W: Waker + Drop + Copy> Phaser<W> {
-    // Waits until the observed phase is over; a watcher that need not wait is let go.
+    // Waits until the observed phase is over; a watcher that need not wait is let go. The bell is taken for its kind alone,
+    // which says whether the task is known.
     pub fn look<const M: usize, B: Bell>(
         &mut self,
         watchers: &mut Arena<Watcher, M>,
@@ -35,11 +54,9 @@ impl<W: Waker + Drop + Copy> Phaser<W> {
         place: usize,
         waker: W,
     ) -> Result<Polled, Refusal>
-        ensures { (result, (phaser_of self.new, table_of watchers.new)) ≡ looks (kind_of B.Bell.known W.Waker.names W.Waker.wakes W.Waker.same) place waker (phaser_of self.old, table_of watchers.old) }
+        ensures { (result, (self.new, watchers.new)) ≡ looks (kind_of B.KNOWN W.waking) place waker (self.old, watchers.old) }
     {
-        let Some(watcher) = watchers.get(place) else {
-            return Err(Refusal::Vacant);
-        };
+        let watcher = watchers.get(place).ok_or(Refusal::Vacant)?;
         if !B::knows(waker.target()) {
             return Err(Refusal::UnknownTask);
         }
@@ -47,13 +64,9 @@ impl<W: Waker + Drop + Copy> Phaser<W> {
             table: WaitTable::Watchers,
             place,
         };
-        match self.complete(watcher.observed, watcher.slot, owner, waker) {
-            Ok(outcome) => {
-                Watcher::after(watchers, place, watcher.observed, outcome);
-                Ok(outcome.told())
-            }
-            Err(refusal) => Err(refusal),
-        }
+        let outcome = self.complete(watcher.observed, watcher.slot, owner, waker)?;
+        Watcher::after(watchers, place, watcher.observed, outcome);
+        Ok(Polled::from(outcome))
     }
 
     // Lets a watcher go.
@@ -62,11 +75,9 @@ impl<W: Waker + Drop + Copy> Phaser<W> {
         watchers: &mut Arena<Watcher, M>,
         place: usize,
     ) -> Result<(), Refusal>
-        ensures { (result, (phaser_of self.new, table_of watchers.new)) ≡ unwatches place (phaser_of self.old, table_of watchers.old) }
+        ensures { (result, (self.new, watchers.new)) ≡ unwatches place (self.old, watchers.old) }
     {
-        let Some(watcher) = watchers.get(place) else {
-            return Err(Refusal::Vacant);
-        };
+        let watcher = watchers.get(place).ok_or(Refusal::Vacant)?;
         let owner = Wait {
             table: WaitTable::Watchers,
             place,
@@ -74,29 +85,5 @@ impl<W: Waker + Drop + Copy> Phaser<W> {
         let _ = self.waiters.unregister(watcher.slot, owner);
         let _ = watchers.remove(place);
         Ok(())
-    }
-}
-
-impl Watcher {
-    fn after<const M: usize>(
-        watchers: &mut Arena<Watcher, M>,
-        place: usize,
-        observed: u64,
-        outcome: Outcome,
-    )
-        ensures { table_of watchers.new ≡ table_after place observed outcome (table_of watchers.old) }
-    {
-        match outcome {
-            Outcome::Ready(_) => {
-                let _ = watchers.remove(place);
-            }
-            Outcome::Closed => {
-                let _ = watchers.remove(place);
-            }
-            Outcome::Parked(slot) => {
-                let slot = Some(slot);
-                let _ = watchers.replace(place, Watcher { observed, slot });
-            }
-        }
     }
 }

@@ -2,21 +2,22 @@
 ghost use Rattle.std.specs.Prelude.{◌≡◌};
 ghost use Rattle.stations.specs.Openings.{opened_of, opening as opens};
 
-use super::super::opening::{Opening, Slots, table, waiters};
+use super::super::opening::{Opening, SLOTS, Slots, table, waiters};
 use super::Station;
 use arena::{Entry, Slot};
 use bells::{Bell, Refusal, Waker};
 use phaser::{Barrier, Phaser};
 
 impl<B: Bell, W: Waker + Drop + Copy> Station<B, W> {
-    // Opens a station with nobody in it and nothing due, unless a size is outside the limits.
+    // Opens a station with nobody in it and nothing due, unless a size is outside the limits. The sets' slots come beside the tables':
+    // an array over a type parameter, inside a struct that is handed on, owes a fact about its size.
     pub fn open(
         opening: Opening,
         slots: Slots,
-        phaser_entries: [Slot<Entry<W>>; 1024],
-        barrier_entries: [Slot<Entry<W>>; 1024],
+        phaser_entries: [Slot<Entry<W>>; SLOTS],
+        barrier_entries: [Slot<Entry<W>>; SLOTS],
     ) -> Result<Station<B, W>, Refusal>
-        ensures { opened_of B.Bell.meaning result ≡ opens opening }
+        ensures { opened_of B.meaning result ≡ opens opening }
     {
         if !opening.fits() {
             return Err(Refusal::SizeOutside);

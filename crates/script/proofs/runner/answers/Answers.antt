@@ -1,44 +1,34 @@
-use Rattle.std.proofs.Common.{◌^◌, ◌<◌, length, arith, rules}
-use Rattle.station.specs.Model.{station_of}
-use Rattle.script.proofs.Buffers.{fault_line-within}
-use Rattle.script.proofs.Lines.{Parted, parted}
-use Rattle.script.proofs.Runs.{left_all, answered, faulted, all_answered}
+use Rattle.std.proofs.Common.{sym, ◌∙◌, ◌+◌, ap, rules}
+use Rattle.std.specs.Iterator.Adapters.{enumerate_source}
+use Rattle.station.specs.Parts.{station_of}
+use Rattle.script.specs.Left.{left}
+use Rattle.script.specs.Runs.{answers}
+use Rattle.script.proofs.Runs.{Underway, underway_at, answered, fault_room, faulted, all_answered}
 use Rattle.script.proofs.runner.answers.Given as given
 use Rattle.script.proofs.runner.answers.Goals as goal
-use Rattle.script.proofs.runner.answers.Goals.{After-cut}
+use Rattle.script.proofs.runner.answers.Goals.{In-Some}
 
--- the line that is cut off, and what is left
-cut : (g : given.Over) (c : After-cut g) → Parted c.loop-rest.rest.now c.cut.result.0.now c.cut.result.1.now
-cut g c =
-    let some : 0 < length c.loop-rest.rest.now = search rules in
-    parted c.loop-rest.rest.now c.cut.result.0.now c.cut.result.1.now c.loop-rest.invariant.whole some c.cut.ensures.front c.cut.ensures.back
+-- how far the run has come, by the number that `enumerate` gives
+underway : (g : given.Over) (c : In-Some g) → Underway g.B.Bell.KNOWN (answers g.B.Bell.KNOWN 3 (station_of g.B.Bell.meaning c.args.station.now) (left c.args.script)) c.args.writer.now c.in-Some.i (station_of g.B.Bell.meaning c.loop-i.station) (left (enumerate_source c.loop-i.i-iterator)) c.loop-i.writer
+underway g c = underway_at g.B.Bell.KNOWN _ _ _ _ _ _ _ c.in-Some.ensures.steps.1 c.loop-i.invariant.underway
 
-pub loop-rest-init : goal.loop-rest-init
-loop-rest-init g c =
-    record { left = left_all _ c.args.writer.now; whole = c.requires.whole; room = c.requires.room; few = omega (arith, c.requires.short) }
-
-pub answer-requires : goal.answer-requires
-answer-requires g c =
-    let p = cut g (goal.at.answer-requires g c).After-cut in
-    record { room = omega (arith, c.loop-rest.invariant.room, p.fewer); few = omega (arith, c.loop-rest.invariant.few) }
+pub loop-i-preserved : goal.loop-i-preserved
+loop-i-preserved g c =
+    let steps = c.in-Some.ensures.steps in
+    record {
+      can = search rules;
+      finite = search rules;
+      underway = answered g.B.Bell.KNOWN _ _ _ _ _ _ (underway g (goal.at.loop-i-preserved g c).In-Some) _ _ steps.0 c.in-Ok.answer _ _ _ (steps.2 ∙ ap (λ n. n + 1) (sym steps.1)) c.in-Ok.ensures c.answer.ensures.within c.answer.ensures.text;
+    }
 
 pub fault-requires : goal.fault-requires
 fault-requires g c =
-    let p = cut g (goal.at.fault-requires g c).After-cut in
-    let few : c.loop-rest.number < 10 ^ 6 = omega (arith, c.loop-rest.invariant.few) in
-    omega (arith, c.loop-rest.invariant.room, p.fewer, fault_line-within c.loop-rest.number few c.in-Err.fault)
+    fault_room g.B.Bell.KNOWN _ _ _ _ _ _ (underway g (goal.at.fault-requires g c).In-Some) _ _ c.in-Some.ensures.steps.0 c.in-Err.fault
 
 pub returns-in-Err : goal.returns-in-Err
 returns-in-Err g c =
-    faulted g.B.Bell.known _ c.args.writer.now c.loop-rest.number (station_of g.B.Bell.meaning c.loop-rest.station) c.loop-rest.rest.now c.loop-rest.writer c.loop-rest.invariant c.cut.result.0.now c.cut.result.1.now (cut g (goal.at.returns-in-Err g c).After-cut) c.in-Err.fault (station_of g.B.Bell.meaning c.reply.new.station) c.fault.new.self c.in-Err.ensures c.fault.ensures
-
-pub loop-rest-smaller : goal.loop-rest-smaller
-loop-rest-smaller g c = (cut g (goal.at.loop-rest-smaller g c).After-cut).shorter
-
-pub loop-rest-preserved : goal.loop-rest-preserved
-loop-rest-preserved g c =
-    answered g.B.Bell.known _ c.args.writer.now c.loop-rest.number (station_of g.B.Bell.meaning c.loop-rest.station) c.loop-rest.rest.now c.loop-rest.writer c.loop-rest.invariant c.cut.result.0.now c.cut.result.1.now (cut g (goal.at.loop-rest-preserved g c).After-cut) c.in-Ok.answer (station_of g.B.Bell.meaning c.reply.new.station) c.answer.new.self c.in-Ok.ensures c.answer.ensures.within c.answer.ensures.text
+    faulted g.B.Bell.KNOWN _ _ _ _ _ _ (underway g (goal.at.returns-in-Err g c).In-Some) _ _ c.in-Some.ensures.steps.0 c.in-Err.fault _ _ c.in-Err.ensures c.fault.ensures
 
 pub returns : goal.returns
 returns g c =
-    all_answered g.B.Bell.known _ c.args.writer.now c.loop-rest.number (station_of g.B.Bell.meaning c.loop-rest.station) c.loop-rest.rest.now c.loop-rest.writer c.loop-rest.invariant (search rules)
+    all_answered g.B.Bell.KNOWN _ _ _ _ _ _ c.loop-i.invariant.underway c.in-None.ensures.steps.0.0

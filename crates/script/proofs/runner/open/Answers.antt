@@ -4,5 +4,5 @@ use Rattle.script.proofs.runner.open.Goals as goal
 
 pub overflow_cast-request : goal.overflow_cast-request
 overflow_cast-request g c =
-    let fits = opening-fits c.args.line.now c.in_ok-request.request c.in_ok-request.ensures c.in_default.ensures in
+    let fits = opening-fits c.args.line.now c.in_ok-request.request (search rules) (search rules) in
     search rules

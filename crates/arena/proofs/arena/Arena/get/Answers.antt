@@ -1,27 +1,28 @@
-use Rattle.std.proofs.Common.{◌<◌, length, sym, ap, ◌∙◌, arith}
+use Rattle.std.proofs.Common.{◌<◌, ◌≤◌, sym, ◌∙◌, arith}
+use Rattle.std.proofs.lemmas.List.{length-take-le, get_or-take}
 use Rattle.arena.specs.Arenas.{shown, table_of}
-use Rattle.arena.specs.Cells.{content}
 use Rattle.arena.proofs.Places.{at_past, at_read}
-use Rattle.arena.proofs.Steps.{shown_read, length-shown}
+use Rattle.arena.proofs.Steps.{length-shown}
 use Rattle.arena.proofs.arena.Arena.get.Goals as goal
 
-pub returns-then-place-self : goal.returns-then-place-self
+pub returns-in_err-get : goal.returns-in_err-get
 unfolding table_of
-returns-then-place-self g c =
-    let a = c.args.self.now in at_past (shown a) a.used c.args.place c.if-place-self.true
+returns-in_err-get g c =
+    let a = c.self.inside in
+    let w = c.self.invariant in
+    let n = length-take-le a.used a.slots.all (omega (arith, w.within.1, w.sized.0, w.sized.1)) in
+    let h : a.used ≤ c.args.place = omega (arith, n, c.in_err-get.ensures.lookup) in
+    rw (← c.self.view_is, c.from_residual.ensures) (at_past (shown a) a.used c.args.place h)
 
-pub returns-in-Occupied : goal.returns-in-Occupied
+pub returns : goal.returns
 unfolding table_of
-returns-in-Occupied g c =
-    let a = c.args.self.now in
-    let l = length-shown a in
-    let h : c.args.place < length (shown a) = omega arith in
-    sym (at_read (shown a) a.used c.args.place c.index-slots-place.result c.if-place-self.false h (shown_read a c.args.place c.index-slots-place.result (omega arith) c.index-slots-place.is) ∙ ap content c.in-Occupied.is)
-
-pub returns-in-Vacant : goal.returns-in-Vacant
-unfolding table_of
-returns-in-Vacant g c =
-    let a = c.args.self.now in
-    let l = length-shown a in
-    let h : c.args.place < length (shown a) = omega arith in
-    sym (at_read (shown a) a.used c.args.place c.index-slots-place.result c.if-place-self.false h (shown_read a c.args.place c.index-slots-place.result (omega arith) c.index-slots-place.is) ∙ ap content c.in-Vacant.is)
+returns g c =
+    let a = c.self.inside in
+    let w = c.self.invariant in
+    let p = c.args.place in
+    let x = c.in_ok-get.field-0.now in
+    let k = c.in_ok-get.ensures.lookup in
+    let n = length-take-le a.used a.slots.all (omega (arith, w.within.1, w.sized.0, w.sized.1)) in
+    let h : p < a.used = omega (arith, n, k) in
+    let e = k.1 ∙ get_or-take a.used a.slots.all p x h ∙ sym (get_or-take a.capacity a.slots.all p x (omega (arith, w.within.1))) in
+    rw (← c.self.view_is, c.value.ensures) (sym (at_read (shown a) a.used p x h (omega (arith, w.within.1, length-shown a w)) e))

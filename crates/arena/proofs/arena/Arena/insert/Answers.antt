@@ -1,68 +1,47 @@
-use Rattle.std.proofs.Common.{◌+◌, ◌<◌, ◌≤◌, length, refl, arith, rules}
-use Rattle.arena.specs.Arenas.{shown, table_of}
-use Rattle.arena.specs.declared.slot.Slot.TheVariants.{Occupied}
-use Rattle.arena.proofs.Steps.{kept, whole, shown-set, length-shown, reuse_below, reuse_kept, reuse_step, fresh-kept, fresh-step, full_step, full_all}
-use Rattle.arena.proofs.Sounds.{table_sound, added_after}
+use Rattle.std.proofs.Common.{◌≡◌, None, refl, sym, ◌∙◌, arith, rules}
+use Rattle.std.proofs.lemmas.Result.{err_from_is_err_and}
+use Rattle.bells.specs.declared.refusal.Refusal.TheVariants.{TableFull}
+use Rattle.arena.proofs.Arenas.{next_freed, next_fresh, next_none, next_inside, reused, raised, refused}
 use Rattle.arena.proofs.arena.Arena.insert.Goals as goal
+use Rattle.arena.proofs.arena.Arena.insert.Goals.{in-Some, in-None}
 
-pub link-next-requires : goal.link-next-requires
-unfolding table_of
-link-next-requires g c = let h = reuse_below c.args.self.now c.in-Some.place c.in-Some.is in search rules
+pub returns-in_err-place-clause-law : goal.returns-in_err-place-clause-law
+returns-in_err-place-clause-law g c =
+    let v : c.vacancy.result ≡ None = grind arith in
+    let e = next_none c.self.inside c.self.invariant _ c.self.view_is (sym c.vacancy.ensures ∙ v) in
+    let p = err_from_is_err_and c.from_residual.result c.from_residual.ensures.1 in
+    let n : c.in_err-place.field-0.0 ≡ TableFull = grind arith in
+    rw (p.1, p.2, n) (refl, (refused c.self.inside c.self.invariant _ c.self.view_is c.args.value e.0 e.1).1)
 
-pub offset_bounds-self-place : goal.offset_bounds-self-place
-unfolding table_of
-offset_bounds-self-place g c = let h = reuse_below c.args.self.now c.in-Some.place c.in-Some.is in search rules
+pub replace-was-requires : goal.replace-was-requires
+replace-was-requires g c =
+    let h = next_inside c.self.inside c.self.invariant _ c.self.view_is c.in_ok-place.place (sym c.vacancy.ensures ∙ c.in_ok-place.ensures.ok_part) in search rules
 
-pub bounds-self-place : goal.bounds-self-place
-unfolding table_of
-bounds-self-place g c = let h = reuse_below c.args.self.now c.in-Some.place c.in-Some.is in omega arith
+pub overflow_add-self : goal.overflow_add-self
+overflow_add-self g c =
+    let h = (next_fresh c.self.inside c.self.invariant _ c.self.view_is c.in_ok-place.place (sym c.vacancy.ensures ∙ c.in_ok-place.ensures.ok_part) c.in-None.is).1 in search rules
 
-pub listed : goal.listed
-unfolding table_of
-listed g c =
-    let a = c.args.self.now in
-    let h = reuse_below a c.in-Some.place c.in-Some.is in
-    omega (arith, a.sized.0, a.sized.1)
+pub overflow_add-self-2 : goal.overflow_add-self-2
+overflow_add-self-2 g c =
+    elim c.match-self.branch [ in-Some w ↦ rw w.self-inside-is (search rules) | in-None w ↦ let h = (next_fresh c.self.inside c.self.invariant _ c.self.view_is c.in_ok-place.place (sym c.vacancy.ensures ∙ c.in_ok-place.ensures.ok_part) w.in-None.is).1 in rw w.self-inside-is (search rules) ]
 
 pub invariant_of-self : goal.invariant_of-self
-unfolding table_of
 invariant_of-self g c =
-    let a = c.args.self.now in
-    whole a c.in-Some.place (Occupied c.args.value) c.link-next.result a.used (a.len + 1) (reuse_below a c.in-Some.place c.in-Some.is) (reuse_kept (shown a) a.head a.used a.len (kept a) c.in-Some.place c.args.value c.link-next.result c.in-Some.is c.link-next.ensures)
+    elim c.match-self.branch [
+      | in-Some w ↦ rw w.self-inside-is (reused c.self.inside c.self.invariant _ c.self.view_is c.in_ok-place.place c.args.value _ _ _ c.replace-was.ensures.after (next_freed c.self.inside c.self.invariant _ c.self.view_is c.in_ok-place.place _ (sym c.vacancy.ensures ∙ c.in_ok-place.ensures.ok_part) w.in-Some.is) c.replace-was.ensures.value w.next-self-inside.ensures).whole
+      | in-None w ↦
+          let n = next_fresh c.self.inside c.self.invariant _ c.self.view_is c.in_ok-place.place (sym c.vacancy.ensures ∙ c.in_ok-place.ensures.ok_part) w.in-None.is in
+          rw w.self-inside-is (raised c.self.inside c.self.invariant _ c.self.view_is c.args.value _ (rw n.0 at c.replace-was.ensures.after) w.in-None.is n.1).whole
+    ]
 
-pub returns-then-place-self : goal.returns-then-place-self
-unfolding table_of
-returns-then-place-self g c =
-    let a = c.args.self.now in
-    let l = length-shown a in
-    let h : length (shown a) ≤ a.used = omega arith in
-    record {
-      step = full_step (shown a) a.head a.used a.len (kept a) c.args.value c.in-None.is h;
-      law = (refl, full_all (shown a) a.head a.used a.len (kept a) c.in-None.is h);
-    }
-
-pub invariant_of-self-in-None : goal.invariant_of-self-in-None
-unfolding table_of
-invariant_of-self-in-None g c =
-    let a = c.args.self.now in
-    let l = length-shown a in
-    let h : a.used < length (shown a) = omega arith in
-    whole a a.used (Occupied c.args.value) a.head (a.used + 1) (a.len + 1) (omega arith) (fresh-kept (shown a) a.head a.used a.len (kept a) c.args.value c.in-None.is h)
-
-pub returns-in-Some : goal.returns-in-Some
-unfolding table_of
-returns-in-Some g c =
-    let a = c.args.self.now in
-    let q = shown-set a c.in-Some.place (Occupied c.args.value) (reuse_below a c.in-Some.place c.in-Some.is) in
-    let e = reuse_step (shown a) a.head a.used a.len (kept a) c.in-Some.place c.args.value c.link-next.result c.in-Some.is c.link-next.ensures in
-    record { step = rw q e; law = rw q (added_after c.args.value (table_of a) _ _ (table_sound a) e) }
-
-pub returns-else-place-self : goal.returns-else-place-self
-unfolding table_of
-returns-else-place-self g c =
-    let a = c.args.self.now in
-    let l = length-shown a in
-    let h : a.used < length (shown a) = omega arith in
-    let q = shown-set a a.used (Occupied c.args.value) (omega arith) in
-    let e = fresh-step (shown a) a.head a.used a.len (kept a) c.args.value c.in-None.is h in
-    record { step = rw q e; law = rw q (added_after c.args.value (table_of a) _ _ (table_sound a) e) }
+pub returns : goal.returns
+returns g c =
+    elim c.match-self.branch [
+      | in-Some w ↦
+          let s = reused c.self.inside c.self.invariant _ c.self.view_is c.in_ok-place.place c.args.value _ _ _ c.replace-was.ensures.after (next_freed c.self.inside c.self.invariant _ c.self.view_is c.in_ok-place.place _ (sym c.vacancy.ensures ∙ c.in_ok-place.ensures.ok_part) w.in-Some.is) c.replace-was.ensures.value w.next-self-inside.ensures in
+          rw w.self-inside-is (record { step = s.step; law = s.law })
+      | in-None w ↦
+          let n = next_fresh c.self.inside c.self.invariant _ c.self.view_is c.in_ok-place.place (sym c.vacancy.ensures ∙ c.in_ok-place.ensures.ok_part) w.in-None.is in
+          let s = raised c.self.inside c.self.invariant _ c.self.view_is c.args.value _ (rw n.0 at c.replace-was.ensures.after) w.in-None.is n.1 in
+          rw (w.self-inside-is, n.0) (record { step = s.step; law = s.law })
+    ]

@@ -6,7 +6,6 @@ use Rattle.arena.proofs.Places.{cells_none, occupied_none}
 use Rattle.arena.proofs.arena.Arena.new.Goals as goal
 
 pub invariant_of-result : goal.invariant_of-result
-unfolding table_of
 invariant_of-result g c =
     let n : length c.args.slots ≡ g.row.N = search rules in
     record {
@@ -20,6 +19,6 @@ pub returns : goal.returns
 unfolding table_of
 returns g c =
     let n : length c.args.slots ≡ g.row.N = search rules in
-    let e : length (take c.args.capacity c.args.slots) ≡ c.args.capacity = length-take-le c.args.capacity c.args.slots (omega arith) in
+    let e = length-take-le c.args.capacity c.args.slots (omega arith) in
     let t : ltb g.row.N c.args.capacity ≡ false = le-ltb g.row.N c.args.capacity c.if-capacity.false in
     rw (t, cells_none (take c.args.capacity c.args.slots), e)

@@ -1,52 +1,20 @@
-use Rattle.std.proofs.Common.{◌-◌, Some, sym, refl, arith, rules}
-use Rattle.arena.specs.Arenas.{shown, table_of}
-use Rattle.arena.specs.declared.slot.Slot.TheVariants.{Vacant}
-use Rattle.arena.proofs.Steps.{kept, whole, shown-set, held_below, held_some, remove-kept, remove-step}
-use Rattle.arena.proofs.Sounds.{table_sound, freed_after}
+use Rattle.std.proofs.Common.{sym, ◌∙◌, rules}
+use Rattle.arena.proofs.Arenas.{held_inside, one_held, removed}
 use Rattle.arena.proofs.arena.Arena.remove.Goals as goal
 
-pub offset_bounds-self-place : goal.offset_bounds-self-place
-unfolding table_of
-offset_bounds-self-place g c =
-    let a = c.args.self.now in
-    let h = held_below a c.args.place c.in-Some.old (sym c.in-Some.ensures) in
-    search rules
-
-pub bounds-self-place : goal.bounds-self-place
-unfolding table_of
-bounds-self-place g c =
-    let a = c.args.self.now in
-    let h = held_below a c.args.place c.in-Some.old (sym c.in-Some.ensures) in
-    omega arith
-
-pub listed : goal.listed
-unfolding table_of
-listed g c =
-    let a = c.args.self.now in
-    let h = held_below a c.args.place c.in-Some.old (sym c.in-Some.ensures) in
-    omega (arith, a.sized.0, a.sized.1)
+pub replace-requires : goal.replace-requires
+replace-requires g c =
+    let h = held_inside c.self.inside c.self.invariant _ c.self.view_is c.args.place _ (sym c.get.ensures ∙ c.in_ok-old.ensures.ok_part) in search rules
 
 pub invariant_of-self : goal.invariant_of-self
-unfolding table_of
 invariant_of-self g c =
-    let a = c.args.self.now in
-    let e = sym c.in-Some.ensures in
-    whole a c.args.place (Vacant a.head) (Some c.args.place) a.used (a.len - 1) (held_below a c.args.place c.in-Some.old e) (remove-kept (shown a) a.head a.used a.len (kept a) c.args.place c.in-Some.old e)
+    (removed c.self.inside c.self.invariant _ c.self.view_is c.args.place _ (sym c.get.ensures ∙ c.in_ok-old.ensures.ok_part) _ c.replace.ensures.after).whole
 
-pub returns-in-Some : goal.returns-in-Some
-unfolding table_of
-returns-in-Some g c =
-    let a = c.args.self.now in
-    let e = sym c.in-Some.ensures in
-    let q = shown-set a c.args.place (Vacant a.head) (held_below a c.args.place c.in-Some.old e) in
-    let k = remove-step (shown a) a.head a.used a.len (kept a) c.args.place c.in-Some.old e in
-    record { step = rw q k; law = rw q (freed_after c.args.place _ (table_of a) _ (table_sound a) k) }
-
-pub returns-in-None : goal.returns-in-None
-returns-in-None g c = let e = sym c.in-None.ensures in record { step = rw e; law = (refl, e) }
+pub returns : goal.returns
+returns g c =
+    let s = removed c.self.inside c.self.invariant _ c.self.view_is c.args.place _ (sym c.get.ensures ∙ c.in_ok-old.ensures.ok_part) _ c.replace.ensures.after in
+    record { step = s.step; law = s.law }
 
 pub overflow_sub-self : goal.overflow_sub-self
-unfolding table_of
 overflow_sub-self g c =
-    let a = c.args.self.now in
-    held_some (shown a) a.head a.used a.len (kept a) c.args.place c.in-Some.old (sym c.in-Some.ensures)
+    one_held c.self.inside c.self.invariant _ c.self.view_is c.args.place _ (sym c.get.ensures ∙ c.in_ok-old.ensures.ok_part)

@@ -1,26 +1,29 @@
 use Rattle.std.proofs.Common.{◌≡◌, false, sym, ◌∙◌, rules}
-use Rattle.bells.specs.Orders.{among, listed, without}
+use Rattle.arrayvec.proofs.ArrayVecLemmas.{filter-from_retain}
+use Rattle.bells.specs.Orders.{among, without}
 use Rattle.bells.proofs.DueLaws.{collected_none}
-use Rattle.bells.specs.Flags.{flagged_known, flagged-collected}
 use Rattle.bells.proofs.OrderLaws.{without-absent}
-use Rattle.bells.proofs.Queues.{agree_in, collected_agrees}
+use Rattle.bells.proofs.Queues.{agree_in, within_in, collected_agrees}
 use Rattle.bells.proofs.queue.QueueBell.collect.Goals as goal
-
-pub bounds-self-task : goal.bounds-self-task
-bounds-self-task c = search (rules, flagged_known)
 
 pub invariant_of-self : goal.invariant_of-self
 invariant_of-self c =
     let q = c.args.self.now in
-    let taken : listed c.take_out.new.self ≡ without c.args.task (listed q.line) = search rules in
-    let agree = collected_agrees (agree_in q) c.args.task c.if-was.ensures taken in
+    let left : c.retain.new.self.items ≡ without c.args.task q.line.items = filter-from_retain _ _ _ (λ x b f' y called. search rules) _ _ c.retain.ensures.filtered in
+    let agree = collected_agrees (agree_in q) c.args.task (within_in q c.args.task (sym c.if-was.ensures.answer)) (sym c.if-was.ensures.answer) in
     search rules
 
-pub returns-then-was : goal.returns-then-was
-returns-then-was c = search (rules, flagged_known, flagged-collected)
+pub invariant_of-self-else-was : goal.invariant_of-self-else-was
+invariant_of-self-else-was c =
+    let agree = agree_in c.args.self.now in
+    let none = collected_none _ _ (sym c.if-was.ensures.answer) in
+    search rules
 
-pub returns-else-was : goal.returns-else-was
-returns-else-was c =
+pub returns-then-was-clause-order : goal.returns-then-was-clause-order
+returns-then-was-clause-order c = filter-from_retain _ _ _ (λ x b f' y called. search rules) _ _ c.retain.ensures.filtered
+
+pub returns-else-was-clause-order : goal.returns-else-was-clause-order
+returns-else-was-clause-order c =
     let q = c.args.self.now in
-    let absent : among (listed q.line) c.args.task ≡ false = sym (c.if-was.ensures ∙ q.matched c.args.task) in
-    search (rules, collected_none, without-absent)
+    let absent : among q.line.items c.args.task ≡ false = sym (c.if-was.ensures.answer ∙ q.matched c.args.task) in
+    search (rules, without-absent)

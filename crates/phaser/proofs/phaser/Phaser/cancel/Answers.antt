@@ -1,8 +1,7 @@
-use Rattle.arena.specs.Arenas.{table_of}
-use Rattle.phaser.specs.Model.{phaser_of}
+use Rattle.std.proofs.Common.{sym, ◌∙◌}
 use Rattle.phaser.proofs.Ways.{cancel_still}
 use Rattle.phaser.proofs.phaser.Phaser.cancel.Goals as goal
 
-pub returns-in_default-member : goal.returns-in_default-member
-returns-in_default-member g c =
-    cancel_still c.args.place (phaser_of c.args.self.now) (table_of c.args.members.now) c.in-Some.member c.in-Some.ensures c.in_default-member.not-InFlight
+pub returns-in_default : goal.returns-in_default
+returns-in_default g c =
+    cancel_still c.args.place c.args.self.now c.args.members.now c.in_ok-member.member (sym c.in_ok-member.ensures.ok_part ∙ c.get.ensures) c.in_default.not-InFlight
