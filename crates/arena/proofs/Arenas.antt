@@ -65,7 +65,7 @@ module _ {T : Type 0} {N : ℕ} (a : Inside T N) (w : Whole a) (t : Table T) (q 
         }
 
   -- the place that the next value takes
-  next : vacancy t ≡ option_or a.head (then_some (ltb a.used a.capacity) a.used)
+  pub next : vacancy t ≡ option_or a.head (then_some (ltb a.used a.capacity) a.used)
   unfolding table_of
   next =
       let n = length_cells a w in

@@ -1,23 +1,20 @@
 -- The values that slots hold, handed out one by one.
-use Rattle.std.proofs.Common.{◌≡◌, ℕ, ◌+◌, ◌<◌, ◌≤◌, List, [], ◌∷◌, ◌++◌, map, length, get_or, take, drop, set, filter_map, true, false, ltb, ◌↔◌, Some, None, Ok, Err, fold, Option, Result, sym, refl, ap, append_assoc, arith, length-set}
+use Rattle.std.proofs.Common.{◌≡◌, ℕ, ◌+◌, ◌<◌, ◌≤◌, List, [], ◌∷◌, ◌++◌, map, length, get_or, take, drop, set, filter_map, Some, None, fold, Option, sym, refl, ap, append_assoc, arith, length-set}
 use Rattle.std.proofs.lemmas.List.{drop_more, take_more_set, take-append-drop, drop-set-lt}
-use Rattle.std.proofs.lemmas.List.{length_push}
 use Rattle.std.proofs.lemmas.List.Elements.{filter_map-append}
-use Rattle.std.proofs.lemmas.Bool.{lt-ltb, le-ltb}
-use Rattle.std.specs.Result.{IsOk, OnOk, OnErr, MatchResult}
-use Rattle.bells.specs.declared.refusal.Refusal.{Refusal}
-use Rattle.bells.specs.declared.refusal.Refusal.TheVariants.{TableFull}
 use Rattle.arena.specs.Table.{values, filled}
-use Rattle.arena.specs.Batches.{push}
 
 pub values_filter : {T : Type 0} (cs : List (Option T)) → filter_map (λ c. c) cs ≡ values cs
 values_filter [] = refl
 values_filter (None ∷ cs) = values_filter cs
 values_filter (Some v ∷ cs) = ap (λ vs. v ∷ vs) (values_filter cs)
 
--- one more at the end of a batch
-pub values-push : {T : Type 0} (cs : List (Option T)) (v : T) → values (cs ++ Some v ∷ []) ≡ values cs ++ v ∷ []
+values-push : {T : Type 0} (cs : List (Option T)) (v : T) → values (cs ++ Some v ∷ []) ≡ values cs ++ v ∷ []
 values-push cs v = rw (← values_filter (cs ++ Some v ∷ []), ← values_filter cs) (filter_map-append (λ c. c) cs (Some v ∷ []))
+
+-- one more at the end of a batch
+pub pushed_more : {T : Type 0} (cs : List (Option T)) (i : ℕ) (v : T) → i < length cs → values (take (i + 1) (set cs i (Some v))) ≡ values (take i cs) ++ v ∷ []
+pushed_more cs i v h = rw (take_more_set cs i (Some v) h) (values-push (take i cs) v)
 
 -- how many were handed out, and where they went
 abbrev pub pour : {T : Type 0} → ℕ × List (Option T) → T → ℕ × List (Option T)
@@ -45,12 +42,3 @@ pub poured_room : {X T : Type 0} (h : X → Option T) (xs : List X) (i n : ℕ) 
 poured_room h xs i n into start x v k e d inv =
     let y : length (filter_map h (drop i xs)) ≡ length (filter_map h (drop (i + 1) xs)) + 1 = rw (drop_more xs i x k, ← e, d) (omega arith) in
     omega (arith, poured_count (filter_map h (drop i xs)) (n, into), poured_count (filter_map h xs) (0, start), ap (λ s. s.0) inv)
-
--- a push to a batch that holds a waker in each slot
-pub pushed : {W E : Type 0} (slots : ℕ) (w : W) (cs cs' : List (Option W)) (r : Result (Unit {0}) E) (r' : Result (Unit {0}) Refusal) → length (values cs) ≡ length cs → (IsOk r ↔ (length cs < slots)) → OnErr r (length cs ≡ slots) → OnOk r (cs' ≡ cs ++ Some w ∷ []) → OnErr r (cs' ≡ cs) → MatchResult r (λ x. r' ≡ Ok x) (λ e. r' ≡ Err TableFull) → (length (values cs') ≡ length cs') × (◌≡◌ {A = Result (Unit {0}) Refusal × List W} (r', values cs') (push slots w (values cs)))
-pushed slots w cs cs' (Ok x) r' full room out ok err m =
-    let t : ltb (length (values cs)) slots ≡ true = lt-ltb _ _ (rw full (room.0 refl)) in
-    (rw (ok, values-push, length_push, length_push) (ap (λ n. n + 1) full), rw (m, ok, t, values-push))
-pushed slots w cs cs' (Err e) r' full room out ok err m =
-    let t : ltb (length (values cs)) slots ≡ false = le-ltb _ _ (rw full (omega (arith, out))) in
-    (rw err full, rw (m, err, t))

@@ -16,6 +16,13 @@ struct Slots<T, const N: usize> {
 }
 
 impl<T: Drop + Copy, const N: usize> Slots<T, N> {
+    fn at(&self, place: usize) -> Slot<T>
+        requires { place < N }
+        ensures { result ≡ slice_index_or self.now.all place result }
+    {
+        self.all[place]
+    }
+
     // Puts a slot into the place of another, and answers that.
     fn replace(&mut self, place: usize, slot: Slot<T>) -> Slot<T>
         requires { place < N }

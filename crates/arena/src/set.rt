@@ -1,5 +1,5 @@
 // Waker sets: an entry for each parked wait.
-ghost use Rattle.std.specs.Prelude.{◌≡◌};
+ghost use Rattle.std.specs.Prelude.{◌≡◌, ◌≤◌, length};
 ghost use Rattle.arena.specs.Table.{occupied};
 ghost use Rattle.arena.specs.Sound.{Sound, Complete};
 ghost use Rattle.arena.specs.Wakers.{own as owns, register as registers, unregister as unregisters, wake_all as wakes_all, Parked, Left, Woken};
@@ -50,6 +50,7 @@ impl<W: Waker + Drop + Copy> WakerSet<W> {
     // How many waits are parked.
     pub fn len(&self) -> usize
         ensures count { result ≡ occupied self.now.cells }
+        ensures fits { length self.now.cells ≤ 1024 }
         ensures sound { Sound self.now }
         ensures complete { Complete self.now }
     {

@@ -1,6 +1,7 @@
 -- Laws of tasks in order: who is among them, and that none stands twice.
-use Rattle.std.proofs.Common.{◌≡◌, ℕ, ◌+◌, Bool, true, false, not, ◌&&◌, ◌||◌, eqb, ltb, List, [], ◌∷◌, ◌++◌, length, sym, refl, ap, ◌∙◌, ⊎_elim, arith}
+use Rattle.std.proofs.Common.{◌≡◌, ℕ, suc, ◌+◌, ◌<◌, Bool, true, false, not, ◌&&◌, ◌||◌, eqb, ltb, List, [], ◌∷◌, ◌++◌, length, sym, refl, ap, ◌∙◌, ⊎_elim, arith}
 use Rattle.std.proofs.lemmas.Bool.{eqb-true, eqb-false, eq-eqb, ne_eqb, cases_eq, and_parts, and_from, and_right, or_parts, or_from, or_cases, not-true, not_from_true, not_from_false, cond-false, both_ways}
+use Rattle.std.specs.List.{position_or_len, remove}
 use Rattle.bells.specs.Orders.{among, once, queued, without}
 
 -- a ring
@@ -95,4 +96,30 @@ length-without task (x ∷ ts) o a =
     let rest = length-without task ts p.1 among_rest in
     let longer = ap length (without_other task x ts ne) in
     omega (arith, rest, longer))
+    (cases_eq x task)
+
+-- the place of a task that stands there, which is its only one
+pub place-below : (task : ℕ) (ts : List ℕ) → among ts task ≡ true → position_or_len (λ x. eqb x task) ts < length ts
+place-below task [] a = absurd (both_ways false refl a)
+place-below task (x ∷ ts) a =
+    ⊎_elim
+    (λ e. rw (eq-eqb x task e) (omega arith))
+    (λ ne.
+    let among_rest : among ts task ≡ true = ⊎_elim (λ c. absurd (ne (sym (eqb-true task x c)))) (λ r. r) (or_cases (eqb task x) (among ts task) a) in
+    rw (ne_eqb x task ne) (omega (arith, place-below task ts among_rest)))
+    (cases_eq x task)
+
+pub without-place : (task : ℕ) (ts : List ℕ) → once ts ≡ true → among ts task ≡ true → remove ts (position_or_len (λ x. eqb x task) ts) ≡ without task ts
+without-place task [] o a = absurd (both_ways false refl a)
+without-place task (x ∷ ts) o a =
+    let p = and_parts (not (among ts x)) (once ts) o in
+    ⊎_elim
+    (λ e.
+    let absent : among ts task ≡ false = ap (among ts) (sym e) ∙ not-true _ p.0 in
+    rw (eq-eqb x task e) (sym (without-absent task ts absent)))
+    (λ ne.
+    let among_rest : among ts task ≡ true = ⊎_elim (λ c. absurd (ne (sym (eqb-true task x c)))) (λ r. r) (or_cases (eqb task x) (among ts task) a) in
+    let i = position_or_len (λ y. eqb y task) ts in
+    let next : 1 + i ≡ suc i = omega arith in
+    rw (ne_eqb x task ne, next) (ap (λ l. x ∷ l) (without-place task ts p.1 among_rest)))
     (cases_eq x task)

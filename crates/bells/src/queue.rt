@@ -22,6 +22,17 @@ pub struct Queue {
     ghost counted: { how_many 1024 (flagged flags.raised) ≡ length line.items },
 }
 
+// Takes a task that stands once in a line out of it, and the others keep their order. No `retain`, which moves them one by one.
+fn take_out(line: &mut ArrayVec<usize, TASKS>, task: usize)
+    requires single { once line.old.items ≡ true }
+    requires stands { among line.old.items task ≡ true }
+    ensures { line.new.items ≡ without task line.old.items }
+{
+    if let Some(place) = line.as_slice().iter().position(|other| *other == task) {
+        line.remove(place);
+    }
+}
+
 impl Queue {
     // The due tasks, the first rung first.
     pub fn in_order(&self) -> &[usize]
@@ -82,7 +93,7 @@ impl Bell for Queue {
     {
         let was = self.flags.collect(task);
         if was {
-            self.line.retain(|other| *other != task);
+            take_out(&mut self.line, task);
         }
         was
     }

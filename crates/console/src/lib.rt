@@ -12,13 +12,17 @@ use std::io::Read;
 const OUT: usize = 65_536;
 
 // Reads until the input ends or the buffer is full, and tells how many bytes were read.
-// When the buffer is full it reads once more: an empty read, which ends the loop.
 // No heap: std's `read_to_end` fills a `Vec`.
 pub fn read_all<R: Read>(input: &mut R, buffer: &mut [u8]) -> io::Result<usize>
     ensures { IfOk result (λ n. n ≤ length buffer.old) }
 {
     let mut len = 0;
-    while let n @ 1.. = input.read(&mut buffer[len..])? {
+    // Each turn reads a byte or more, so there are no more turns than bytes.
+    for _ in 0..buffer.len() {
+        let n = input.read(&mut buffer[len..])?;
+        if n == 0 {
+            break;
+        }
         len += n;
     }
     Ok(len)

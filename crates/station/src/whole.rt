@@ -1,7 +1,7 @@
 // The parts of one station together, and every call on them.
-ghost use Rattle.std.specs.Prelude.{◌≡◌};
+ghost use Rattle.std.specs.Prelude.{◌≡◌, ◌≤◌};
 ghost use Rattle.station.specs.Parts.{station_of};
-ghost use Rattle.station.specs.Rules.{opened};
+ghost use Rattle.station.specs.Rules.{opened, has_arrived};
 ghost use Rattle.station.specs.Steps.{step};
 
 use super::barrier::Barrier;
@@ -28,6 +28,14 @@ impl<B: Bell> Station<B> {
             barrier: Barrier::new(n, generation),
             bell: B::new(),
         }
+    }
+
+    // Of those registered, how many have arrived: no more than there are, as of every station.
+    pub fn arrived(&self) -> u64
+        ensures count { result ≡ has_arrived (station_of B.meaning self.now).phaser }
+        ensures within { (station_of B.meaning self.now).phaser.unarrived ≤ (station_of B.meaning self.now).phaser.registered }
+    {
+        self.phaser.arrived()
     }
 
     pub fn perform(&mut self, call: Call) -> Answer

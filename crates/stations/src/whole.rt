@@ -11,6 +11,7 @@ use arena::Arena;
 use bells::{Bell, Refusal, Waker};
 use phaser::{Barrier, Batch, Follower, Member, Phaser, Watcher};
 
+mod kept;
 mod opened;
 
 // No `impl Model`: a clause speaks of which tasks are due, a function of tasks, and a model's value holds no function.

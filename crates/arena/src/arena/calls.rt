@@ -30,11 +30,11 @@ impl<T: Drop + Copy, const N: usize> Arena<T, N> {
         ensures law { Inserted value self.old result self.new }
     {
         let place = self.vacancy().ok_or(Refusal::TableFull)?;
-        let was = self.slots.replace(place, Slot::Occupied(value));
         match self.head {
-            Some(_) => self.head = was.next(),
+            Some(_) => self.head = self.slots.at(place).next(),
             None => self.used += 1,
         }
+        let _ = self.slots.replace(place, Slot::Occupied(value));
         self.len += 1;
         Ok(place)
     }

@@ -8,9 +8,10 @@ use super::super::slot::Slot;
 use super::Arena;
 
 impl<T: Drop + Copy, const N: usize> Arena<T, N> {
-    // How many places are occupied.
+    // How many places are occupied. There are no more places than slots.
     pub fn len(&self) -> usize
         ensures count { result ≡ occupied self.now.cells }
+        ensures fits { length self.now.cells ≤ N }
         ensures sound { Sound self.now }
         ensures complete { Complete self.now }
     {
@@ -39,11 +40,15 @@ impl<T: Drop + Copy, const N: usize> Arena<T, N> {
         self.slots.all[..self.used].get(place)?.value()
     }
 
-    // The place that the next value takes, unless all are occupied.
+    // The place that the next value takes, unless all are occupied. A `match`: with `or` and `then_some` an insertion took up to three
+    // quarters more instructions.
     pub fn vacancy(&self) -> Option<usize>
         ensures { result ≡ vacancy self.now }
     {
-        self.head
-            .or((self.used < self.capacity).then_some(self.used))
+        match self.head {
+            Some(place) => Some(place),
+            None if self.used < self.capacity => Some(self.used),
+            None => None,
+        }
     }
 }

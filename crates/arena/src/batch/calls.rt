@@ -1,5 +1,5 @@
 // The calls of a batch.
-ghost use Rattle.std.specs.Prelude.{◌≡◌, []};
+ghost use Rattle.std.specs.Prelude.{◌≡◌, ◌≤◌, [], length};
 ghost use Rattle.bells.specs.Due.{rung};
 ghost use Rattle.arena.specs.Batches.{push as pushes, spills};
 ghost use Rattle.arena.specs.Ringing.{rung_all, each_rung};
@@ -7,8 +7,7 @@ ghost use Rattle.arena.specs.Table.{values};
 
 use super::super::arena::Arena;
 use super::super::wait::Entry;
-use super::{SPILL, WakerBatch};
-use arrayvec::ArrayVec;
+use super::{SPILL, Slots, WakerBatch};
 use bells::{Bell, Refusal, Waker};
 
 impl<W: Waker + Drop + Copy, const M: usize> WakerBatch<W, M> {
@@ -16,32 +15,38 @@ impl<W: Waker + Drop + Copy, const M: usize> WakerBatch<W, M> {
     pub fn new(slots: [Option<W>; M]) -> WakerBatch<W, M>
         ensures { result ≡ [] }
     {
-        let mut slots = ArrayVec::from_array_in((), slots);
-        slots.clear();
-        WakerBatch { slots }
+        WakerBatch {
+            slots: Slots { all: slots },
+            len: 0,
+        }
     }
 
-    // Whether the batch is to be rung before the next push.
+    // Whether the batch is to be rung before the next push. It holds no more wakers than it has slots.
     pub fn will_spill(&self) -> bool
-        ensures { result ≡ spills self.now }
+        ensures spills { result ≡ spills self.now }
+        ensures fits { length self.now ≤ M }
     {
-        self.slots.len() >= SPILL
+        self.len >= SPILL
     }
 
     // One waker more, unless all slots are used.
     pub fn push(&mut self, waker: W) -> Result<(), Refusal>
         ensures { (result, self.new) ≡ pushes M waker self.old }
     {
-        self.slots
-            .try_push(Some(waker))
-            .map_err(|_| Refusal::TableFull)
+        let end = self.len;
+        if end >= M {
+            return Err(Refusal::TableFull);
+        }
+        self.slots.put(end, waker);
+        self.len = end + 1;
+        Ok(())
     }
 
-    // Forgets the wakers.
+    // Forgets the wakers, in constant time.
     pub fn clear(&mut self)
         ensures { self.new ≡ [] }
     {
-        self.slots.clear();
+        self.len = 0;
     }
 
     // Rings the wakers in pushed order, and empties the batch.
@@ -50,7 +55,7 @@ impl<W: Waker + Drop + Copy, const M: usize> WakerBatch<W, M> {
         ensures left { self.new ≡ [] }
     {
         // A plain walk: tried as `iter().flatten()`, and the proof of the loop did not close.
-        for slot in self.slots.as_slice() {
+        for slot in &self.slots.all[..self.len] {
             if let Some(waker) = slot {
                 bell.ring(waker.target());
             }

@@ -1,5 +1,7 @@
 // What a phaser tells of itself.
-ghost use Rattle.std.specs.Prelude.{◌≡◌, ◌-◌, ◌<◌, ◌≤◌, false};
+ghost use Rattle.std.specs.Prelude.{◌≡◌, ◌-◌, ◌<◌, ◌≤◌, false, length};
+ghost use Rattle.arena.specs.Table.{occupied};
+ghost use Rattle.arena.specs.Sound.{Sound, Complete};
 
 use super::Phaser;
 use bells::Waker;
@@ -38,5 +40,15 @@ impl<W: Waker + Drop + Copy> Phaser<W> {
         ensures awaited { self.now.tally.closed ≡ false → 0 < self.now.tally.registered → 0 < self.now.tally.unarrived }
     {
         self.counts.unarrived
+    }
+
+    // How many wait for the phase to be over, and what the set of their wakers keeps.
+    pub fn waiting(&self) -> usize
+        ensures count { result ≡ occupied self.now.waiting.cells }
+        ensures fits { length self.now.waiting.cells ≤ 1024 }
+        ensures sound { Sound self.now.waiting }
+        ensures complete { Complete self.now.waiting }
+    {
+        self.waiters.len()
     }
 }

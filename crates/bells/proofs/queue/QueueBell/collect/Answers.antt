@@ -1,15 +1,21 @@
 use Rattle.std.proofs.Common.{◌≡◌, false, sym, ◌∙◌, rules}
-use Rattle.arrayvec.proofs.ArrayVecLemmas.{filter-from_retain}
-use Rattle.bells.specs.Orders.{among, without}
+use Rattle.bells.specs.Orders.{among}
 use Rattle.bells.proofs.DueLaws.{collected_none}
 use Rattle.bells.proofs.OrderLaws.{without-absent}
 use Rattle.bells.proofs.Queues.{agree_in, within_in, collected_agrees}
 use Rattle.bells.proofs.queue.QueueBell.collect.Goals as goal
 
+pub take_out-requires : goal.take_out-requires
+take_out-requires c =
+    let q = c.args.self.now in
+    record {
+      single = q.single;
+      stands = sym (c.if-was.ensures.answer ∙ q.matched c.args.task);
+    }
+
 pub invariant_of-self : goal.invariant_of-self
 invariant_of-self c =
     let q = c.args.self.now in
-    let left : c.retain.new.self.items ≡ without c.args.task q.line.items = filter-from_retain _ _ _ (λ x b f' y called. search rules) _ _ c.retain.ensures.filtered in
     let agree = collected_agrees (agree_in q) c.args.task (within_in q c.args.task (sym c.if-was.ensures.answer)) (sym c.if-was.ensures.answer) in
     search rules
 
@@ -18,9 +24,6 @@ invariant_of-self-else-was c =
     let agree = agree_in c.args.self.now in
     let none = collected_none _ _ (sym c.if-was.ensures.answer) in
     search rules
-
-pub returns-then-was-clause-order : goal.returns-then-was-clause-order
-returns-then-was-clause-order c = filter-from_retain _ _ _ (λ x b f' y called. search rules) _ _ c.retain.ensures.filtered
 
 pub returns-else-was-clause-order : goal.returns-else-was-clause-order
 returns-else-was-clause-order c =
