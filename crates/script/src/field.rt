@@ -27,7 +27,7 @@ fn number(digits: &[u8]) -> Option<u64>
 impl<'a> From<&'a [u8]> for Field<'a> {
     ghost from_gives = { λ text made. field_of made ≡ field text.now };
 
-    // Into `read`, which is wanted four times a line: without, a line took an eighth more instructions.
+    // Into `read`, which is wanted four times a line: without, a line took a sixth more instructions.
     #[inline(always)]
     fn from(text: &'a [u8]) -> Field<'a> {
         match text {
